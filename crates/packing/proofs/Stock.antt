@@ -1,0 +1,80 @@
+-- Refusal 10: exactly when no permitted bin has space and the whole stock is opened.
+use Prim.Native.Nat.{ℕ, suc, _+_, _≤_, _<_}
+use mathlib.Core.Path.{_≡_, refl}
+use mathlib.Core.Bool.{Bool, true, false, _&&_, false≢true}
+use mathlib.Core.List.{List, [], _∷_, List·Memᴰ, List·Memᴰ·head, List·Memᴰ·tail, List·Memᴰ·not-nil}
+use native.Mathlib.Omega.{arith}
+use borrow.Author.Tests.{eqb-false, ltb-true, ltb-false, leb-true, leb-false, ne-eqb, le-ltb, lt-ltb, le-leb, lt-leb}
+use lib.Dec.{eqb, ltb, leb}
+use lib.ListN.{length}
+use Rattle.packing.specs.Prelude.{if_then_else_, Opening, Placed, Refused, SizeZero, AboveCapacity, StockSpent}
+use Rattle.packing.specs.Bins.{Item, Bin, Packing, opened, load}
+use Rattle.packing.specs.Placing.{firstFit, permitted, target, hasSpace, takes, binFor, spent, outcome}
+use Rattle.packing.specs.Claims.{Spent, SpentExactly}
+use Rattle.packing.proofs.Tests.{both-true, each-cons}
+
+-- First fit passes all bins exactly when none takes the item.
+none-takes : (test : Bin → Bool) (bins : List Bin) → length bins ≤ firstFit test bins → (b : Bin) → List·Memᴰ b bins → test b ≡ false
+unfolding firstFit
+none-takes test [] h = λ b m. absurd (List·Memᴰ·not-nil m)
+none-takes test (b ∷ bs) h = go (test b) refl h (none-takes test bs)
+  where
+    go : (t : Bool) → test b ≡ t → suc (length bs) ≤ (if t then 0 else suc (firstFit test bs))
+        → (length bs ≤ firstFit test bs → (x : Bin) → List·Memᴰ x bs → test x ≡ false) → (x : Bin) → List·Memᴰ x (b ∷ bs) → test x ≡ false
+    go true e l r = absurd (omega arith)
+    go false e l r = each-cons (λ x. test x ≡ false) e (r (omega arith))
+
+passes-all : (test : Bin → Bool) (bins : List Bin) → ((b : Bin) → List·Memᴰ b bins → test b ≡ false) → firstFit test bins ≡ length bins
+unfolding firstFit
+passes-all test [] h = refl
+passes-all test (b ∷ bs) h = rw (h b (List·Memᴰ·head refl)) (omega (arith, passes-all test bs (λ x m. h x (List·Memᴰ·tail m))))
+
+module _ (o : Opening) (p : Packing) (i : Item) where
+  full : (b : Bin) → takes o p i b ≡ false → permitted o (target o p i) b ≡ true → o .capacity < load b + i .size
+  full b t h = go (permitted o (target o p i) b) (hasSpace o p i b) refl h t
+    where
+      go : (x y : Bool) → hasSpace o p i b ≡ y → x ≡ true → (x && y) ≡ false → o .capacity < load b + i .size
+      go true true e u z = absurd (false≢true (cc))
+      go true false e u z = leb-false (load b + i .size) (o .capacity) e
+      go false y e u z = absurd (false≢true u)
+
+  refuses : (b : Bin) → (permitted o (target o p i) b ≡ true → o .capacity < load b + i .size) → takes o p i b ≡ false
+  refuses b h = go (permitted o (target o p i) b) refl
+    where
+      go : (x : Bool) → permitted o (target o p i) b ≡ x → (x && hasSpace o p i b) ≡ false
+      go true e = lt-leb (load b + i .size) (o .capacity) (h e)
+      go false e = refl
+
+  spent-only : outcome o p i ≡ Refused StockSpent → Spent o p i
+  unfolding outcome
+  spent-only = go (eqb (i .size) 0) (ltb (o .capacity) (i .size)) (spent o p i) refl refl refl
+    where
+      go : (a b d : Bool) → eqb (i .size) 0 ≡ a → ltb (o .capacity) (i .size) ≡ b → spent o p i ≡ d
+          → (if a then Refused SizeZero else if b then Refused AboveCapacity else if d then Refused StockSpent else Placed (binFor o p i)) ≡ Refused StockSpent
+          → Spent o p i
+      go true b d x y z h = absurd (let w : _≡_ {A = ℕ} 0 1 = cc in omega arith)
+      go false true d x y z h = absurd (let w : _≡_ {A = ℕ} 0 1 = cc in omega arith)
+      go false false false x y z h = absurd (let w : _≡_ {A = ℕ} 0 1 = cc in omega arith)
+      go false false true x y z h =
+          let both = both-true (ltb (opened p) (binFor o p i)) (leb (o .stock) (opened p)) z in
+          let new = ltb-true (opened p) (binFor o p i) (both .0) in
+          record {
+            some = omega (arith, eqb-false (i .size) 0 x);
+            within-capacity = ltb-false (o .capacity) (i .size) y;
+            no-space = λ b m. full b (none-takes (takes o p i) (p .bins) (omega arith) b m);
+            all-opened = leb-true (o .stock) (opened p) (both .1);
+          }
+
+  spent-then : Spent o p i → outcome o p i ≡ Refused StockSpent
+  unfolding outcome
+  spent-then h =
+      let all = passes-all (takes o p i) (p .bins) (λ b m. refuses b (h .no-space b m)) in
+      rw (
+        ne-eqb (i .size) 0 (λ e. omega (arith, h .some)),
+        le-ltb (o .capacity) (i .size) (h .within-capacity),
+        lt-ltb (opened p) (binFor o p i) (omega arith),
+        le-leb (o .stock) (opened p) (h .all-opened),
+      )
+
+  pub spent-exactly : SpentExactly o p i
+  spent-exactly = (spent-only, spent-then)

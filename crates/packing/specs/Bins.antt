@@ -1,0 +1,37 @@
+-- Items, bins and packings: document 01's masters, cartridges and shelf.
+use Rattle.packing.specs.Prelude.{ℕ, Bool, List, [], _∷_, map, length, total, any, Opening, SizeClass}
+use Rattle.packing.specs.SizeClasses.{sizeClass, isA}
+
+-- A master has a whole number of units.
+pub record Item : Type 0 where
+  pub size : ℕ
+
+-- A cartridge keeps its class, 1 to 4. The last item stands first.
+pub record Bin : Type 0 where
+  pub class : ℕ
+  pub items : List Item
+
+-- Bins are numbered 1, 2, 3 and so on in order of opening, whatever their class. The B2 items accepted so far are counted, in both classes together.
+pub record Packing : Type 0 where
+  pub bins : List Bin
+  pub b2s : ℕ
+
+-- The shelf is empty at the opening.
+abbrev pub empty : Packing
+empty = record { bins = []; b2s = 0 }
+
+abbrev pub opened : Packing → ℕ
+opened p = length (p .bins)
+
+abbrev pub load : Bin → ℕ
+load b = total (map (λ i. i .size) (b .items))
+
+abbrev pub add : Item → Bin → Bin
+add i b = record { class = b .class; items = i ∷ b .items }
+
+abbrev pub kind : Opening → Item → SizeClass
+kind o i = sizeClass (o .capacity) (i .size)
+
+-- A bin contains an A.
+abbrev pub holdsA : Opening → Bin → Bool
+holdsA o b = any (λ i. isA (kind o i)) (b .items)

@@ -1,0 +1,74 @@
+-- What is promised of the model, as statements; ../proofs shows each of every opening and every list of commands. Demand 3 and the plan of a packing's
+-- own answers are stated in the crate worst_case.
+use Rattle.packing.specs.Prelude.{ℕ, _+_, _*_, _≤_, _<_, _≡_, _↔_, Bool, true, _||_, List, [], _∷_, _++_, map, length, take, drop, List·Memᴰ, total, _=?_}
+use Rattle.packing.specs.Prelude.{Opening, SizeClass, A, B1, B2, X, Command, Shelve, Count, Counted, Refused, StockSpent, Entry, StreamResult}
+use Rattle.packing.specs.Bins.{Item, Bin, Packing, opened, load, kind}
+use Rattle.packing.specs.Placing.{permitted, target, outcome}
+use Rattle.packing.specs.Streams.{accepted}
+use Rattle.packing.specs.Run.{item, next, packing, outcomes, answers, placements, result}
+use Rattle.packing.specs.Compared.{acceptedSizes, numberOpened}
+
+-- The inequalities of each size class: the tests before it failed.
+abbrev pub Bounds : (c s : ℕ) → SizeClass → Type 0
+Bounds c s A = c < 2 * s
+Bounds c s B1 = (2 * s ≤ c) × (2 * c < 5 * s)
+Bounds c s B2 = (5 * s ≤ 2 * c) × (c < 3 * s)
+Bounds c s X = 3 * s ≤ c
+
+-- The bins that an item of a size class may lie in, by their class.
+abbrev pub belongs : SizeClass → (class : ℕ) → Bool
+belongs A n = n =? 1
+belongs B1 n = n =? 2
+belongs B2 n = (n =? 1) || (n =? 3)
+belongs X n = n =? 4
+
+-- What every bin is that was ever opened.
+pub record SoundBin (o : Opening) (b : Bin) : Type 0 where
+  pub not-overfull : load b ≤ o .capacity
+  pub filled : 1 ≤ length (b .items)
+  pub in-class : (i : Item) → List·Memᴰ i (b .items) → belongs (kind o i) (b .class) ≡ true
+
+module _ (o : Opening) (cs : List Command) where
+  -- In every packing reached, no load exceeds the capacity; every bin has its class and at least one item.
+  abbrev pub NeverOverfull : Type 0
+  NeverOverfull = (b : Bin) → List·Memᴰ b (packing o cs .bins) → SoundBin o b
+
+  -- The loads always add up to the sizes of the accepted items.
+  abbrev pub LoadsAddUp : Type 0
+  LoadsAddUp = total (map load (packing o cs .bins)) ≡ total (acceptedSizes o cs)
+
+  -- The answers to the first j commands depend on the opening and those j alone.
+  abbrev pub Prefix : Type 0
+  Prefix = (j : ℕ) → take j (answers o cs) ≡ answers o (take j cs)
+
+  -- The accepted items lie as they would if the refused ones had not been sent.
+  pub record RefusedLeftOut : Type 0 where
+    pub same-packing : packing o (map Shelve (acceptedSizes o cs)) ≡ packing o cs
+    pub same-bins : placements o (map Shelve (acceptedSizes o cs)) ≡ placements o cs
+
+  -- A bin number answered is at most the number opened, which is at most the stock.
+  pub record AnswersInRange : Type 0 where
+    pub from-one : (e : Entry) → List·Memᴰ e (placements o cs) → 1 ≤ e .bin
+    pub to-opened : (e : Entry) → List·Memᴰ e (placements o cs) → e .bin ≤ numberOpened o cs
+    pub to-stock : numberOpened o cs ≤ o .stock
+
+  -- A count answered equals the number opened there, and so does, after the last command, the total returned.
+  pub record Counts : Type 0 where
+    pub bins : opened (packing o cs) ≡ numberOpened o cs
+    pub answered : (later : List Command) → take 1 (drop (length cs) (outcomes o (cs ++ Count ∷ later))) ≡ Counted (numberOpened o cs) ∷ []
+    pub returned : result (accepted o cs) ≡ StreamResult.Accepted (length (acceptedSizes o cs)) (numberOpened o cs)
+
+-- A new bin is called for and the stock is spent: no permitted bin has space, and the whole stock is opened.
+pub record Spent (o : Opening) (p : Packing) (i : Item) : Type 0 where
+  pub some : 1 ≤ i .size
+  pub within-capacity : i .size ≤ o .capacity
+  pub no-space : (b : Bin) → List·Memᴰ b (p .bins) → permitted o (target o p i) b ≡ true → o .capacity < load b + i .size
+  pub all-opened : o .stock ≤ opened p
+
+-- Refused with 10 exactly then; in the order 8, 9, 10 the other two are refused before.
+abbrev pub SpentExactly : Opening → Packing → Item → Type 0
+SpentExactly o p i = (outcome o p i ≡ Refused StockSpent) ↔ Spent o p i
+
+-- A refused item changes nothing.
+abbrev pub RefusedChangesNothing : Opening → Packing → ℕ → Type 0
+RefusedChangesNothing o p s = (reason : _) → outcome o p (item s) ≡ Refused reason → next o p (Shelve s) ≡ p

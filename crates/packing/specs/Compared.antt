@@ -1,0 +1,17 @@
+-- "What demand 3 compares", after a list of commands: the accepted items and the number opened on one side, the bins that a plan uses on the other.
+use Rattle.packing.specs.Prelude.{ℕ, _+_, List, [], _∷_, map, greatest, any, _=?_, if_then_else_, Opening, Command, Entry}
+use Rattle.packing.specs.Run.{placements}
+
+module _ (o : Opening) (cs : List Command) where
+  -- "The accepted masters": the sizes, in the stream's order, of the commands that shelve an item and are not refused.
+  abbrev pub acceptedSizes : List ℕ
+  acceptedSizes = map (λ e. e .size) (placements o cs)
+
+  -- "The number opened": the greatest bin number answered to these items, or 0 if there are none.
+  abbrev pub numberOpened : ℕ
+  numberOpened = greatest (map (λ e. e .bin) (placements o cs))
+
+-- "A plan uses the cartridges whose numbers stand in its entries, each counted once."
+unfoldable pub used : List Entry → ℕ
+used [] = 0
+used (e ∷ es) = (if any (λ f. f .bin =? e .bin) es then 0 else 1) + used es

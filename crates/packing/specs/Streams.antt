@@ -1,0 +1,82 @@
+-- "Command streams": a row of bytes is read as an opening and the commands after it, or refused.
+use Rattle.packing.specs.Prelude.{ℕ, zero, suc, _+_, _*_, not, List, [], _∷_, foldl, length, take, drop, _=?_, _<?_, if_then_else_}
+use Rattle.packing.specs.Prelude.{Opening, Command, Shelve, Count, WidthRow, Width, Known, Unknown}
+use Rattle.packing.specs.Prelude.{StreamReason, NoOpening, UnknownOpcode, CutShort, SecondOpening, OutsideLimits, TooManyCommands, TooFewWords}
+use Rattle.packing.specs.Limits.{openingGood, mostCommands}
+
+-- capacity 4 bytes, stock 2, m 1
+abbrev pub openingWidth : ℕ
+openingWidth = 4 + 2 + 1
+
+-- "One table gives each command byte its operand width."
+unfoldable pub widths : List WidthRow
+widths =
+    record { opcode = 0x01; width = openingWidth } ∷
+    record { opcode = 0x02; width = 4 } ∷
+    record { opcode = 0x03; width = 0 } ∷
+    []
+
+unfoldable pub lookup : ℕ → List WidthRow → Width
+lookup b [] = Unknown
+lookup b (row ∷ rows) = if row .opcode =? b then Known (row .width) else lookup b rows
+
+-- Operands are unsigned, most significant byte first: this one has so many bytes before it and is so wide.
+abbrev pub operand : (before width : ℕ) → List ℕ → ℕ
+operand before width s = foldl (λ n b. n * 256 + b) 0 (take width (drop before s))
+
+abbrev pub openingOf : List ℕ → Opening
+openingOf s = record { capacity = operand 0 4 s; stock = operand 4 2 s; m = operand 6 1 s }
+
+-- the command of an opcode that is in the table and is no opening
+abbrev pub commandOf : ℕ → List ℕ → Command
+commandOf b s = if b =? 0x02 then Shelve (operand 0 4 s) else Count
+
+-- What stands at the front of a stream after the opening: a whole command and its operand width, or a fault.
+pub data Front : Type 0 where
+  whole : Command → ℕ → Front
+  faulty : StreamReason → Front
+
+-- For byte b with s behind it the order is 2, 4, 3.
+abbrev pub front : (b : ℕ) (s : List ℕ) → Width → Front
+front b s Unknown = faulty UnknownOpcode
+front b s (Known width) =
+    if b =? 0x01 then faulty SecondOpening else
+    if length s <? width then faulty CutShort else
+    whole (commandOf b s) width
+
+-- What a stream is read as: its opening and commands, or a refusal and its offset.
+pub data Read : Type 0 where
+  accepted : Opening → List Command → Read
+  refused : StreamReason → ℕ → Read
+
+abbrev pub follow : Command → Read → Read
+follow c (accepted o cs) = accepted o (c ∷ cs)
+follow c (refused reason offset) = refused reason offset
+
+-- "What follows a command is read as a stream of its own": from its offset on, with so many commands left to it. Refusal 6 comes first.
+unfoldable pub commands : Opening → (left offset : ℕ) → List ℕ → Read
+commands o zero offset [] = accepted o []
+commands o zero offset (b ∷ s) = refused TooManyCommands offset
+commands o (suc left) offset [] = accepted o []
+commands o (suc left) offset (b ∷ s) = elim (front b s (lookup b widths)) [
+  | faulty reason ↦ refused reason offset
+  | whole c width ↦ follow c (commands o left (offset + suc width) (drop width s))
+]
+
+-- The whole stream is read before any item is placed; its first faulty command decides. At the opening the order is 1, 3, 5.
+unfoldable pub read : List ℕ → Read
+read [] = refused NoOpening 0
+read (b ∷ s) =
+    if not (b =? 0x01) then refused NoOpening 0 else
+    if length s <? openingWidth then refused CutShort 0 else
+    if not (openingGood (openingOf s)) then refused OutsideLimits 0 else
+    commands (openingOf s) mostCommands (1 + openingWidth) (drop openingWidth s)
+
+-- Refusal 7 comes last of the stream's: fewer answer words than commands, at the length of the stream.
+abbrev pub lent : (words bytes : ℕ) → Read → Read
+lent words bytes (accepted o cs) = if words <? length cs then refused TooFewWords bytes else accepted o cs
+lent words bytes (refused reason offset) = refused reason offset
+
+-- An accepted stream is one that no stream refusal stops.
+abbrev pub verdict : (stream row : List ℕ) → Read
+verdict stream row = lent (length row) (length stream) (read stream)

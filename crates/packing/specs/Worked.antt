@@ -1,0 +1,83 @@
+-- "Worked shelves": the cases marked ● make one table, proved together by one theorem that computes over it.
+use Rattle.packing.specs.Prelude.{ℕ, _+_, _*_, _≡_, refl, Bool, true, List, [], _∷_, _++_, map, zipWith, flatten, replicate, total, greatest, any, _≤?_}
+use Rattle.packing.specs.Prelude.{Opening, SizeClass, A, B1, B2, X, Shelve, Entry, StreamResult, PlanResult, Overfull}
+use Rattle.packing.specs.Refusals.{word}
+use Rattle.packing.specs.SizeClasses.{sizeClass}
+use Rattle.packing.specs.Placing.{firstFit, put, outcome, placed}
+use Rattle.packing.specs.Streams.{widths, lookup, commands, read, verdict}
+use Rattle.packing.specs.Run.{outcomesFrom, outcomes, result, rowAtExit}
+use Rattle.packing.specs.Plans.{fault, entries, check}
+use Rattle.packing.specs.Compared.{numberOpened, used}
+
+-- What a case is about.
+pub data Finding : Type 0 where
+  classes : List SizeClass → Finding
+  words : List ℕ → Finding
+  returned : StreamResult → Finding
+  checked : PlanResult → Finding
+  figure : ℕ → Finding
+  holds : Bool → Finding
+
+-- What the model computes, beside what the paper says.
+infix 70 _is_
+abbrev pub _is_ : Finding → Finding → Finding × Finding
+computed is said = (computed, said)
+
+-- Every worked shelf has m 6.
+abbrev pub opening : (capacity stock : ℕ) → Opening
+opening c stock = record { capacity = c; stock = stock; m = 6 }
+
+abbrev pub shelved : (capacity stock : ℕ) → List ℕ → Finding
+shelved c stock sizes = words (map word (outcomes (opening c stock) (map Shelve sizes)))
+
+abbrev pub planOf : (sizes bins : List ℕ) → List Entry
+planOf sizes bins = zipWith (λ s n. record { size = s; bin = n }) sizes bins
+
+abbrev pub planned : (capacity k : ℕ) (sizes bins : List ℕ) → Finding
+planned c k sizes bins = checked (check c k (planOf sizes bins) sizes)
+
+-- After document 000's Theorem 1 with n = 7, and a plan of it: each bin has a size above a half, one above and one below a quarter.
+abbrev pub theorem1 : List ℕ
+theorem1 =
+    69632 ∷ 63488 ∷ 65024 ∷ 65792 ∷ 65408 ∷ 65504 ∷ 65552 ∷ 65528 ∷ 65534 ∷ 66560 ∷ 65600 ∷ 65540 ∷
+    135168 ∷ 132096 ∷ 131328 ∷ 131136 ∷ 131088 ∷ 131076 ∷ 131073 ∷ 57344 ∷ 65537 ∷ []
+
+abbrev pub seven : List ℕ
+seven = 1 ∷ 2 ∷ 3 ∷ 3 ∷ 4 ∷ 5 ∷ 5 ∷ 6 ∷ 7 ∷ 2 ∷ 4 ∷ 6 ∷ 1 ∷ 2 ∷ 3 ∷ 4 ∷ 5 ∷ 6 ∷ 7 ∷ 1 ∷ 7 ∷ []
+
+-- The stream that document 01 gives to `shelve`, in bytes.
+abbrev pub sample : List ℕ
+sample =
+    0x01 ∷ 0 ∷ 0 ∷ 0 ∷ 0x3C ∷ 0 ∷ 4 ∷ 6 ∷
+    0x02 ∷ 0 ∷ 0 ∷ 0 ∷ 0x23 ∷
+    flatten (replicate 6 (0x02 ∷ 0 ∷ 0 ∷ 0 ∷ 0x16 ∷ [])) ++
+    0x02 ∷ 0 ∷ 0 ∷ 0 ∷ 0x14 ∷
+    0x03 ∷
+    0x02 ∷ 0 ∷ 0 ∷ 0 ∷ 0x16 ∷ []
+
+unfoldable pub table : List (Finding × Finding)
+table =
+    classes (map (sizeClass 60) (20 ∷ 21 ∷ 24 ∷ 25 ∷ 30 ∷ 31 ∷ [])) is classes (X ∷ B2 ∷ B2 ∷ B1 ∷ B1 ∷ A ∷ []) ∷
+    classes (map (sizeClass 7) (1 ∷ 2 ∷ 3 ∷ 4 ∷ 5 ∷ 6 ∷ 7 ∷ [])) is classes (X ∷ X ∷ B1 ∷ A ∷ A ∷ A ∷ A ∷ []) ∷
+    classes (map (sizeClass 1) (1 ∷ [])) is classes (A ∷ []) ∷
+    shelved 60 512 (replicate 6 22 ++ 38 ∷ []) is words (1 ∷ 1 ∷ 2 ∷ 2 ∷ 3 ∷ 4 ∷ 4 ∷ []) ∷
+    shelved 60 512 (replicate 6 22 ++ 39 ∷ []) is words (1 ∷ 1 ∷ 2 ∷ 2 ∷ 3 ∷ 4 ∷ 5 ∷ []) ∷
+    planned 60 1 (30 ∷ 30 ∷ []) (1 ∷ 1 ∷ []) is checked PlanResult.Passed ∷
+    planned 60 1 (30 ∷ 31 ∷ []) (1 ∷ 1 ∷ []) is checked (PlanResult.Refused Overfull 2) ∷
+    planned 60 0 [] [] is checked PlanResult.Passed ∷
+    shelved 262144 512 theorem1 is words (1 ∷ 1 ∷ 1 ∷ 2 ∷ 2 ∷ 2 ∷ 3 ∷ 3 ∷ 3 ∷ 4 ∷ 4 ∷ 4 ∷ 5 ∷ 6 ∷ 7 ∷ 8 ∷ 9 ∷ 10 ∷ 11 ∷ 1 ∷ 12 ∷ []) ∷
+    planned 262144 7 theorem1 seven is checked PlanResult.Passed ∷
+    figure (3 * numberOpened (opening 262144 512) (map Shelve theorem1)) is figure 36 ∷
+    figure (5 * used (planOf theorem1 seven) + 15) is figure 50 ∷
+    holds (3 * numberOpened (opening 262144 512) (map Shelve theorem1) ≤? 5 * used (planOf theorem1 seven) + 15) is holds true ∷
+    -- Beyond the ●: every B2 counts towards m, an m-th B2 joins no lone B2, and a refused B2 is not counted.
+    shelved 60 512 (replicate 12 22) is words (1 ∷ 1 ∷ 2 ∷ 2 ∷ 3 ∷ 4 ∷ 3 ∷ 5 ∷ 5 ∷ 6 ∷ 6 ∷ 7 ∷ []) ∷
+    shelved 60 2 (31 ∷ 31 ∷ replicate 6 22) is words (1 ∷ 2 ∷ replicate 6 32_778) ∷
+    -- The sample stream, with two words more than it has commands.
+    returned (result (verdict sample (replicate 12 7))) is returned (StreamResult.Accepted 8 4) ∷
+    words (rowAtExit (verdict sample (replicate 12 7)) (replicate 12 7)) is words (1 ∷ 2 ∷ 2 ∷ 3 ∷ 3 ∷ 4 ∷ 1 ∷ 32_778 ∷ 4 ∷ 4 ∷ 7 ∷ 7 ∷ []) ∷
+    []
+
+pub worked-shelves : map (λ c. c .0) table ≡ map (λ c. c .1) table
+unfolding table sizeClass total greatest any firstFit put outcome placed outcomesFrom zipWith flatten used fault entries check widths lookup commands read
+worked-shelves = refl
