@@ -2,17 +2,17 @@
 use Prim.Native.Nat.{ℕ, suc, _+_, _≤_, max}
 use mathlib.Core.Path.{_≡_, refl}
 use mathlib.Core.Bool.{Bool, true, false, _&&_}
-use mathlib.Core.List.{List, [], _∷_, map, List·Memᴰ, List·Memᴰ·not-nil}
+use mathlib.Core.List.{List, [], _∷_, _++_, map, zipWith, flatten, List·Memᴰ, List·Memᴰ·not-nil}
 use native.Mathlib.Omega.{arith}
 use borrow.Author.Tests.{ltb-false, leb-false}
 use lib.Dec.{ltb, leb}
 use lib.ListN.{length}
-use Rattle.packing.specs.Prelude.{if_then_else_, total, greatest, Opening, Entry}
+use Rattle.packing.specs.Prelude.{if_then_else_, total, greatest, Opening, Command, Shelve, Count, Outcome, Placed, Counted, Refused, Entry}
 use Rattle.packing.specs.Bins.{Bin, Packing, opened}
-use Rattle.packing.specs.Placing.{firstFit, target, classOf, takes, binFor, spent, placed}
-use Rattle.packing.specs.Run.{item}
+use Rattle.packing.specs.Placing.{firstFit, target, classOf, takes, binFor, spent, outcome, placed, after}
+use Rattle.packing.specs.Run.{item, placement, answerTo, next, outcomesFrom}
 use Rattle.packing.proofs.Tests.{each-cons}
-use Rattle.packing.proofs.Trace.{Trace, ends, places}
+use Rattle.packing.proofs.Trace.{Trace, ends, places, placementsFrom}
 use Rattle.packing.proofs.Putting.{fresh, put-length, weightOf, put-weight}
 
 -- First fit passes no more bins than there are.
@@ -63,6 +63,18 @@ module _ (o : Opening) where
   pub trace-from-one : {p q : Packing} {es : List Entry} → Trace o p es q → (e : Entry) → List·Memᴰ e es → 1 ≤ e .bin
   trace-from-one ends = λ e m. absurd (List·Memᴰ·not-nil m)
   trace-from-one (places h r) = each-cons (λ e. 1 ≤ e .bin) (omega (arith, h .its-bin)) (trace-from-one r)
+
+-- No more items are placed than commands are sent.
+pub placements-few : (o : Opening) (cs : List Command) (p : Packing) → length (placementsFrom o p cs) ≤ length cs
+unfolding flatten zipWith outcomesFrom
+placements-few o [] p = omega arith
+placements-few o (c ∷ cs) p = go c (answerTo o p c) (placementsFrom o (next o p c) cs) (placements-few o cs (next o p c))
+  where
+    go : (c : Command) (a : Outcome) (es : List Entry) → length es ≤ length cs → length (placement c a ++ es) ≤ suc (length cs)
+    go (Shelve s) (Placed bin) es h = omega arith
+    go (Shelve s) (Counted n) es h = omega arith
+    go (Shelve s) (Refused reason) es h = omega arith
+    go Count a es h = omega arith
 
 -- A member is at most the greatest.
 pub at-most-greatest : {A : Type 0} (f : A → ℕ) (l : List A) (a : A) → List·Memᴰ a l → f a ≤ greatest (map f l)

@@ -17,6 +17,7 @@ use Rattle.packing.proofs.Prefixes.{prefix-from, count-from}
 use Rattle.packing.proofs.LeftOut.{resent-packing, resent-bins}
 pub use Rattle.packing.proofs.SizeClasses.{class-bounds, bounds-class}
 pub use Rattle.packing.proofs.Stock.{spent-exactly}
+pub use Rattle.packing.proofs.Accepted.{accepted-whole}
 
 module _ (o : Opening) (cs : List Command) where
   pub never-overfull : NeverOverfull o cs

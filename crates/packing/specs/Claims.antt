@@ -4,7 +4,8 @@ use Rattle.packing.specs.Prelude.{ℕ, _+_, _*_, _≤_, _<_, _≡_, _↔
 use Rattle.packing.specs.Prelude.{Opening, SizeClass, A, B1, B2, X, Command, Shelve, Count, Counted, Refused, StockSpent, Entry, StreamResult}
 use Rattle.packing.specs.Bins.{Item, Bin, Packing, opened, load, kind}
 use Rattle.packing.specs.Placing.{permitted, target, outcome}
-use Rattle.packing.specs.Streams.{accepted}
+use Rattle.packing.specs.Limits.{openingGood, mostCommands}
+use Rattle.packing.specs.Streams.{accepted, commands, verdict}
 use Rattle.packing.specs.Run.{item, next, packing, outcomes, answers, placements, result}
 use Rattle.packing.specs.Compared.{acceptedSizes, numberOpened}
 
@@ -57,6 +58,19 @@ module _ (o : Opening) (cs : List Command) where
     pub bins : opened (packing o cs) ≡ numberOpened o cs
     pub answered : (later : List Command) → take 1 (drop (length cs) (outcomes o (cs ++ Count ∷ later))) ≡ Counted (numberOpened o cs) ∷ []
     pub returned : result (accepted o cs) ≡ StreamResult.Accepted (length (acceptedSizes o cs)) (numberOpened o cs)
+
+-- What no stream refusal leaves of a stream and its row: an opening within its limits, a whole command at every place after it, and no more
+-- commands than 4,096 and than the row has words.
+pub record Whole (stream row : List ℕ) (o : Opening) (cs : List Command) : Type 0 where
+  pub opening-good : openingGood o ≡ true
+  pub opening-whole : 8 ≤ length stream
+  pub commands-whole : commands o mostCommands 8 (drop 8 stream) ≡ accepted o cs
+  pub commands-few : length cs ≤ mostCommands
+  pub row-enough : length cs ≤ length row
+
+-- An accepted stream is whole.
+abbrev pub AcceptedWhole : (stream row : List ℕ) (o : Opening) (cs : List Command) → Type 0
+AcceptedWhole stream row o cs = verdict stream row ≡ accepted o cs → Whole stream row o cs
 
 -- A new bin is called for and the stock is spent: no permitted bin has space, and the whole stock is opened.
 pub record Spent (o : Opening) (p : Packing) (i : Item) : Type 0 where

@@ -1,0 +1,59 @@
+-- The 5 is exact: it serves, and one stream and plan have 3 times the number opened equal to 5 times the bins used, plus 5, whatever m is.
+use Prim.Native.Nat.{ℕ, _+_, _*_, _%_, _≤_}
+use mathlib.Core.Path.{_≡_, refl}
+use mathlib.Core.Bool.{true, false}
+use mathlib.Core.List.{List, [], _∷_, map, zipWith, flatten}
+use native.Mathlib.Omega.{arith}
+use native.Mathlib.Nat.{mod-eq-of-lt}
+use lib.Dec.{eqb}
+use Rattle.packing.specs.declared.{Opening.Opening, Command.Command, Entry.Entry, PlanResult.PlanResult}
+use Rattle.packing.specs.declared.Command.the-variants.{Shelve}
+use Rattle.packing.specs.Prelude.{total, greatest, any}
+use Rattle.packing.specs.Limits.{mGood, openingGood}
+use Rattle.packing.specs.SizeClasses.{sizeClass}
+use Rattle.packing.specs.Placing.{firstFit, put, outcome, placed}
+use Rattle.packing.specs.Run.{outcomesFrom}
+use Rattle.packing.specs.Plans.{fault, entries, check}
+use Rattle.packing.specs.Compared.{acceptedSizes, numberOpened, used}
+use Rattle.packing.specs.Worked.{planOf}
+use Rattle.worst_case.specs.ExactFive.{ExactFive}
+use Rattle.packing.proofs.Limits.{within-limits}
+use Rattle.worst_case.proofs.WorstCase.{worst-case-five}
+
+abbrev opening : ℕ → Opening
+opening m = record { capacity = 11; stock = 512; m = m }
+
+-- Sizes of all four classes, and two A that do not go together: five bins.
+abbrev sizes : List ℕ
+sizes = 6 ∷ 5 ∷ 6 ∷ 4 ∷ 1 ∷ []
+
+abbrev cs : List Command
+cs = map Shelve sizes
+
+-- They fill two.
+abbrev plan : List Entry
+plan = planOf sizes (1 ∷ 1 ∷ 2 ∷ 2 ∷ 2 ∷ [])
+
+record Met (m : ℕ) : Type 0 where
+  good : openingGood (opening m) ≡ true
+  passes : check 11 2 plan (acceptedSizes (opening m) cs) ≡ PlanResult.Passed
+  equal : 3 * numberOpened (opening m) cs ≡ 5 * used plan + 5
+
+-- The one B2 is not an m-th.
+no-turn : (m : ℕ) → 6 ≤ m → eqb (1 % m) 0 ≡ false
+no-turn m h = rw (mod-eq-of-lt {n = 1} {m = m} (omega arith))
+
+met : (m : ℕ) → mGood m ≡ true → Met m
+unfolding sizeClass total greatest any firstFit put outcome placed outcomesFrom zipWith flatten used fault entries check
+met m h =
+    let no-m-th = no-turn m (within-limits 6 9 m h .0) in
+    record { good = rw h; passes = simp no-m-th; equal = simp no-m-th }
+
+-- The bound gives the 5, and a D that serves, serves after the five commands.
+pub exact-five : ExactFive
+exact-five m h =
+    let e = met m h in
+    record {
+      serves = λ o cs same good j k plan ok. omega (arith, worst-case-five o cs good j k plan ok);
+      no-smaller = λ D serves. omega (arith, e .equal, serves (opening m) cs refl (e .good) 5 2 plan (e .passes));
+    }
