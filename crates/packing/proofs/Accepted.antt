@@ -12,7 +12,7 @@ use Rattle.packing.specs.Limits.{openingGood, mostCommands}
 use Rattle.packing.specs.Streams.{openingWidth, openingOf, Front, whole, faulty, front, widths, lookup, Read, accepted, refused, follow, commands, read, lent, verdict}
 use Rattle.packing.specs.Claims.{Whole, AcceptedWhole}
 
-refused-accepted : {A : Type 0} {reason : StreamReason} {offset : ℕ} {o : Opening} {cs : List Command} → refused reason offset ≡ accepted o cs → A
+pub refused-accepted : {A : Type 0} {reason : StreamReason} {offset : ℕ} {o : Opening} {cs : List Command} → refused reason offset ≡ accepted o cs → A
 refused-accepted e = absurd (let z : _≡_ {A = ℕ} 0 1 = cc in omega arith)
 
 -- The opening is handed on, and each command counts against those left.

@@ -1,0 +1,124 @@
+-- The ways out of a step, each a law over what the code knows there. Assumes nothing.
+use mathlib.Core.Path.{_≡_, refl, sym, ap, _∙_}
+use mathlib.Core.List.{List}
+use Prim.Native.Nat.{ℕ, _+_, _-_, _*_, _≤_, _<_}
+use native.Mathlib.Omega.{arith}
+use lib.Dec.{leb, eqb}
+use lib.ListN.{length}
+use borrow.Author.Tests.{eq-eqb, ne-eqb, lt-ltb}
+use Rattle.packing.specs.declared.{Opening.Opening, SizeClass.SizeClass, Answer.Answer, ItemReason.ItemReason}
+use Rattle.packing.specs.declared.Outcome.the-variants.{Placed, Counted, Refused}
+use Rattle.packing.specs.declared.ItemReason.the-variants.{SizeZero, AboveCapacity, StockSpent}
+use Rattle.packing.specs.declared.Command.the-variants.{Shelve, Count}
+use Rattle.packing.specs.Bins.{Packing}
+use Rattle.packing.specs.Placing.{outcome}
+use Rattle.packing.specs.Run.{item}
+use Rattle.tournament.specs.declared.Shape.{Shape}
+use Rattle.tournament.specs.Trees.{leaves}
+use Rattle.tournament.proofs.Fits.{Lowest, Lacking}
+use Rattle.tournament.proofs.Leaves.{leaves-length}
+use Rattle.engine.specs.declared.Counters.{Counters}
+use Rattle.engine.specs.Aims.{home}
+use Rattle.engine.specs.Store.{Store, held, shownAt, Forest, Sound, Represents}
+use Rattle.engine.specs.Shown.{Shown}
+use Rattle.engine.specs.Done.{answerOf, Counting, Done}
+use Rattle.engine.proofs.Aiming.{phase-below}
+use Rattle.engine.proofs.Aimed.{Aimed, tree-few}
+use Rattle.engine.proofs.Joining.{found-modelled}
+use Rattle.engine.proofs.Anew.{spent-outcome, new-modelled}
+
+-- Two outcomes of different kinds.
+placed-not-refused : {bin : ℕ} {reason : ItemReason} → Placed bin ≡ Refused reason → ⊥
+placed-not-refused e = let z : _≡_ {A = ℕ} 0 1 = cc in omega arith
+
+counted-not-refused : {bins : ℕ} {reason : ItemReason} → Counted bins ≡ Refused reason → ⊥
+counted-not-refused e = let z : _≡_ {A = ℕ} 0 1 = cc in omega arith
+
+-- Refused: the store stays.
+module _ (o : Opening) (shape : Shape) (s : Store) (number size : ℕ) (sound : Sound o shape s) where
+  done-refused : (reason : ItemReason) → ((p : Packing) → Represents o shape s p → outcome o p (item size) ≡ Refused reason)
+      → Done o shape s number (Shelve size) (answerOf number (Refused reason)) s
+  done-refused reason m = record {
+    sound = sound;
+    numbered = refl;
+    model = λ p r. record { answered = sym (m p r); represents = rw (m p r) r };
+    items = omega arith;
+    refused = λ _ _. refl;
+  }
+
+  pub done-zero : size ≡ 0 → Done o shape s number (Shelve size) (answerOf number (Refused SizeZero)) s
+  unfolding outcome
+  done-zero z = done-refused SizeZero (λ p r. rw (eq-eqb size 0 z))
+
+  pub done-large : (size ≡ 0 → ⊥) → o .capacity < size → Done o shape s number (Shelve size) (answerOf number (Refused AboveCapacity)) s
+  unfolding outcome
+  done-large z l = done-refused AboveCapacity (λ p r. rw (ne-eqb size 0 z, lt-ltb (o .capacity) size l))
+
+-- Every place of the tree that is searched is a leaf of it.
+pub places : {o : Opening} {c : Counters} {size : ℕ} {k : SizeClass} {n : ℕ} {q : Counters} → Aimed o c size k n q
+    → {shape : Shape} {t : List ℕ} → Sound o shape (held t c) → length (leaves t (1024 * n) (shape .places)) ≡ shape .places
+places a sound =
+    let tree = sound .forest .tree _ (tree-few a) in
+    leaves-length _ _ _ (omega (arith, tree .words, tree .room))
+
+-- Searched for in tree n.
+module _ {o : Opening} {c : Counters} {size : ℕ} {k : SizeClass} {n : ℕ} {q : Counters} (a : Aimed o c size k n q)
+    {shape : Shape} {t : List ℕ} (sound : Sound o shape (held t c)) (number : ℕ) where
+  phase-still : q .phase < o .m
+  phase-still = rw (a .counted) (phase-below (c .phase) (o .m) k (a .phase))
+
+  sound-after : {u : List ℕ} (next : Counters) → next .opened ≤ o .stock → next .phase ≡ q .phase → Forest shape u → Sound o shape (held u next)
+  sound-after next l e f = record { forest = f; stock = sound .stock; within = l; phase = omega (arith, phase-still) }
+
+  opened-still : q .opened ≡ c .opened
+  opened-still = ap (λ (x : Counters). x .opened) (a .counted)
+
+  one-more : q .items ≡ c .items + 1
+  one-more = ap (λ (x : Counters). x .items) (a .counted)
+
+  pub done-found : {i : ℕ} {u : List ℕ} → Lowest size (leaves t (1024 * n) (shape .places)) i
+      → Shown shape t (home n) (leb n 1) i (shownAt t (shape .places) n i - size) u
+      → Done o shape (held t c) number (Shelve size) (answerOf number (Placed (i + 1))) (held u q)
+  done-found f d = record {
+    sound = sound-after q (omega (arith, opened-still, sound .within)) refl (d .forest);
+    numbered = refl;
+    model = λ p r. found-modelled a r (omega (arith, f .inside, places a sound)) f d;
+    items = one-more;
+    refused = λ reason e. absurd (placed-not-refused e);
+  }
+
+  -- Nothing found.
+  module _ (f : Lacking size (leaves t (1024 * n) (shape .places))) where
+    lacking : (j : ℕ) → j < shape .places → shownAt t (shape .places) n j < size
+    lacking j l = f j (omega (arith, places a sound))
+
+    room : c .opened ≤ shape .places
+    room = omega (arith, sound .within, sound .stock)
+
+    pub done-spent : o .stock ≤ c .opened → Done o shape (held t c) number (Shelve size) (answerOf number (Refused StockSpent)) (held t c)
+    done-spent l = done-refused o shape (held t c) number size sound StockSpent (λ p r. spent-outcome a r lacking room l)
+
+    pub done-new : {u : List ℕ} → c .opened < o .stock → Shown shape t (home n) (eqb n 1) (c .opened) (o .capacity - size) u
+        → Done o shape (held t c) number (Shelve size) (answerOf number (Placed (c .opened + 1)))
+        (held u (record { opened = c .opened + 1; phase = q .phase; items = q .items }))
+    done-new l d = record {
+      sound = sound-after (record { opened = c .opened + 1; phase = q .phase; items = q .items }) (omega arith) refl (d .forest);
+      numbered = refl;
+      model = λ p r. new-modelled a r lacking room l (omega (arith, sound .stock)) d;
+      items = one-more;
+      refused = λ reason e. absurd (placed-not-refused e);
+    }
+
+-- A count: the store stays.
+pub counting : (c : Counters) (number : ℕ) → Counting c number (answerOf number (Counted (c .opened)))
+counting c number = record { counted = refl; model = λ o shape trees p r. rw (r .bins) }
+
+pub done-count : (o : Opening) (shape : Shape) (s : Store) (number : ℕ) (r : Answer) → Sound o shape s → Counting (s .counters) number r
+    → Done o shape s number Count r s
+done-count o shape s number r sound m = record {
+  sound = sound;
+  numbered = ap (λ (x : Answer). x .number) (m .counted);
+  model = λ p w. record { answered = ap (λ (x : Answer). x .outcome) (m .model o shape (s .trees) p w); represents = w };
+  items = omega arith;
+  refused = λ reason e. absurd (counted-not-refused (sym (ap (λ (x : Answer). x .outcome) (m .counted)) ∙ e));
+}

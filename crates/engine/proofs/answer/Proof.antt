@@ -1,0 +1,26 @@
+-- `answer` meets its contract: each command by the function that answers it. Assumes nothing.
+use borrow.Author.Needs.{needs}
+use Rattle.engine.proofs.Ways.{done-count}
+use Rattle.engine.proofs.answer.Statement.{statement}
+use Rattle.engine.proofs.answer.Tie as tie
+
+enum-known-command : tie.Need-enum-known-command
+enum-known-command c = search needs
+
+place-requires : tie.Need-place-requires
+place-requires c κs = search needs
+
+enum-told : tie.Need-enum-told
+enum-told c = search needs
+
+count-requires : tie.Need-count-requires
+count-requires c κs = search needs
+
+returns : tie.Need-returns
+returns c = rw (c .before .before .before .command .given .1) (c .place .ensures)
+
+returns-2 : tie.Need-returns-2
+returns-2 c = rw (c .before .enum-told .given .1) (done-count _ _ _ _ _ (c .before .before .before .pre .sound) (c .count .ensures))
+
+pub answer-spec : {M : Type 1} → statement M
+answer-spec = tie.close (tie.spec enum-known-command place-requires enum-told count-requires returns returns-2)

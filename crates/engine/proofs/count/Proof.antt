@@ -1,0 +1,10 @@
+-- `count` meets its contract. Assumes nothing.
+use Rattle.engine.proofs.Ways.{counting}
+use Rattle.engine.proofs.count.Statement.{statement}
+use Rattle.engine.proofs.count.Tie as tie
+
+returns : tie.Need-returns
+returns c = counting _ _
+
+pub count-spec : {M : Type 1} → statement M
+count-spec = tie.close (tie.spec returns)

@@ -1,0 +1,34 @@
+-- The five trees: which bins each shows, which one is searched for an item, and what accepting an item counts.
+use Prim.Native.Nat.{ℕ, zero, suc, _+_}
+use Rattle.packing.specs.declared.SizeClass.{SizeClass}
+use Rattle.packing.specs.declared.SizeClass.the-variants.{A, B1, B2, X}
+use Rattle.packing.specs.Prelude.{_=?_, if_then_else_}
+use Rattle.packing.specs.Placing.{Target, toClass, besideA}
+use Rattle.engine.specs.declared.Counters.{Counters}
+
+-- Tree n shows the bins of class n, tree 0 the bins of class 1 that hold an A.
+abbrev pub aim : (tree : ℕ) → Target
+aim zero = besideA
+aim (suc n) = toClass (suc n)
+
+-- the class of the bins that a tree shows
+abbrev pub home : (tree : ℕ) → ℕ
+home zero = 1
+home (suc n) = suc n
+
+-- The tree that is searched for an item; the phase is the count of B2 items accepted, modulo m.
+abbrev pub treeFor : SizeClass → (phase m : ℕ) → ℕ
+treeFor A phase m = 1
+treeFor B1 phase m = 2
+treeFor B2 phase m = if phase + 1 =? m then 0 else 3
+treeFor X phase m = 4
+
+abbrev pub phaseAfter : SizeClass → (phase m : ℕ) → ℕ
+phaseAfter A phase m = phase
+phaseAfter B1 phase m = phase
+phaseAfter B2 phase m = if phase + 1 =? m then 0 else phase + 1
+phaseAfter X phase m = phase
+
+-- the counters once an item is accepted into an opened bin
+abbrev pub accepting : SizeClass → (m : ℕ) → Counters → Counters
+accepting k m c = record { opened = c .opened; phase = phaseAfter k (c .phase) m; items = c .items + 1 }

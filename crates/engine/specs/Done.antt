@@ -1,0 +1,40 @@
+-- What a step promises: at every packing that the store represents, the model's answer and the model's next packing.
+use mathlib.Core.Path.{_≡_}
+use mathlib.Core.List.{List}
+use Prim.Native.Nat.{ℕ, _+_}
+use lib.ListN.{length}
+use Rattle.packing.specs.declared.{Opening.Opening, Command.Command, Outcome.Outcome, Answer.Answer, ItemReason.ItemReason}
+use Rattle.packing.specs.declared.Command.the-variants.{Count}
+use Rattle.packing.specs.declared.Outcome.the-variants.{Counted, Refused}
+use Rattle.packing.specs.Bins.{Packing}
+use Rattle.packing.specs.Run.{answerTo, next, placement}
+use Rattle.tournament.specs.declared.Shape.{Shape}
+use Rattle.engine.specs.declared.{Counters.Counters, Step.Step}
+use Rattle.engine.specs.Store.{Store, held, Sound, Represents}
+
+-- "An answer joins the command's number with placed, counted or refused."
+abbrev pub answerOf : ℕ → Outcome → Answer
+answerOf number a = record { number = number; outcome = a }
+
+abbrev pub stepOf : ℕ → Outcome → Counters → Step
+stepOf number a c = record { answer = answerOf number a; next = c }
+
+-- The count of bins opened is the model's, at every packing of every store with these counters.
+pub record Counting (c : Counters) (number : ℕ) (r : Answer) : Type 0 where
+  pub counted : r ≡ answerOf number (Counted (c .opened))
+  pub model : (o : Opening) (shape : Shape) (trees : List ℕ) (p : Packing) → Represents o shape (held trees c) p
+      → r ≡ answerOf number (answerTo o p Count)
+
+pub record Modelled (o : Opening) (shape : Shape) (command : Command) (a : Outcome) (u : Store) (p : Packing) : Type 0 where
+  pub answered : a ≡ answerTo o p command
+  pub represents : Represents o shape u (next o p command)
+
+-- From the store s, the command of this number is answered so and leaves the store u.
+pub record Done (o : Opening) (shape : Shape) (s : Store) (number : ℕ) (command : Command) (r : Answer) (u : Store) : Type 0 where
+  pub sound : Sound o shape u
+  pub numbered : r .number ≡ number
+  pub model : (p : Packing) → Represents o shape s p → Modelled o shape command (r .outcome) u p
+  -- One more item for each that is placed.
+  pub items : u .counters .items ≡ s .counters .items + length (placement command (r .outcome))
+  -- A refused item leaves every word as it was.
+  pub refused : (reason : ItemReason) → r .outcome ≡ Refused reason → u ≡ s

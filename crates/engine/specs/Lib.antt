@@ -1,0 +1,5 @@
+-- The engine's store, the packing that it represents, and what a step promises.
+pub mod Aims
+pub mod Store
+pub mod Shown
+pub mod Done

@@ -1,0 +1,37 @@
+-- What the two passes answer, in the model's terms.
+use mathlib.Core.List.{List, [], _∷_}
+use mathlib.Core.Path.{_≡_}
+use Prim.Native.Nat.{ℕ, _+_, _^_, _≤_, _<_}
+use lib.ListN.{length}
+use Rattle.packing.specs.declared.StreamReason.the-variants.{UnknownOpcode}
+use Rattle.packing.specs.Streams as model
+use Rattle.packing.specs.Streams.{Read, widths, lookup}
+use Rattle.stream.specs.declared.reader.Front.{Front}
+use Rattle.stream.specs.declared.reader.Front.the-variants.{Whole, Faulty}
+use Rattle.stream.specs.declared.reader.Summary.{Summary}
+use Rattle.stream.specs.declared.reader.Summary.the-variants.{Accepted, Refused}
+
+-- An operand of up to 4 bytes stands in the row.
+pub record InStream (at width : ℕ) (s : List ℕ) : Type 0 where
+  pub narrow : width ≤ 4
+  pub inside : at + width ≤ length s
+
+-- n is the operand there; it has as many bytes.
+pub record Operand (at width : ℕ) (s : List ℕ) (n : ℕ) : Type 0 where
+  pub value : n ≡ model.operand at width s
+  pub small : n < 256 ^ width
+
+-- The front of a stream that is not empty.
+abbrev pub frontOf : List ℕ → model.Front
+frontOf [] = model.faulty UnknownOpcode
+frontOf (b ∷ s) = model.front b s (lookup b widths)
+
+-- The model's value of a front.
+abbrev pub means : Front → model.Front
+means (Whole c width) = model.whole c width
+means (Faulty reason) = model.faulty reason
+
+-- What the first pass keeps of a reading: of the commands, their number.
+abbrev pub summary : Read → Summary
+summary (model.accepted o cs) = Accepted o (length cs)
+summary (model.refused reason offset) = Refused reason offset

@@ -1,0 +1,118 @@
+-- The store: at most one node is wrong, the parent of the node that was set last. Assumes nothing.
+use mathlib.Core.Path.{_≡_, refl, sym, _∙_}
+use mathlib.Core.List.{List}
+use Prim.Native.Nat.{ℕ, _+_, _-_, _*_, _/_, _%_, _≤_, _<_, max}
+use native.Mathlib.Decide.{ℕ-discrete}
+use native.Mathlib.Omega.{arith}
+use lib.ListN.{length, getD, set, length-set}
+use lib.Seq.{getD-set-same, getD-set-other}
+use Rattle.tournament.specs.declared.Shape.{Shape}
+use Rattle.tournament.specs.Trees.{node, Right, Tree}
+use Rattle.tournament.specs.Stored.{Stored}
+use Rattle.tournament.proofs.Leaves.{leaves-set, leaves-same}
+
+-- s is the row once the leaf is set, t the row now; node n of t holds v, and every node is right but the parent of n.
+pub record Climb (b places : ℕ) (s t : List ℕ) (n v : ℕ) : Type 0 where
+  pub start : length s ≡ 5120
+  pub words : length t ≡ 5120
+  pub room : b + 2 * places ≤ 5120
+  pub low : 1 ≤ n
+  pub high : n < 2 * places
+  pub here : node t b n ≡ v
+  pub kept : (k : ℕ) → (b < k → k < b + places → ⊥) → getD t k 0 ≡ getD s k 0
+  pub right : (k : ℕ) → 1 ≤ k → k < places → (k ≡ n / 2 → ⊥) → Right t b k
+
+-- A node stays right where neither it nor a child of it is set.
+right-set : (t : List ℕ) (b m v k : ℕ) → (k ≡ m → ⊥) → (2 * k ≡ m → ⊥) → (2 * k + 1 ≡ m → ⊥) → Right t b k → Right (set t (b + m) v) b k
+right-set t b m v k x y z r =
+    rw (
+      getD-set-other t (b + m) (b + k) v 0 (λ e. x (omega arith)),
+      getD-set-other t (b + m) (b + 2 * k) v 0 (λ e. y (omega arith)),
+      getD-set-other t (b + m) (b + (2 * k + 1)) v 0 (λ e. z (omega arith)),
+    ) r
+
+-- A node is right once it is set to the larger of its children.
+right-here : (t : List ℕ) (b m v : ℕ) → 1 ≤ m → b + m < length t → v ≡ max (node t b (2 * m)) (node t b (2 * m + 1)) → Right (set t (b + m) v) b m
+right-here t b m v x l e =
+    rw (
+      getD-set-same t (b + m) v 0 l,
+      getD-set-other t (b + m) (b + 2 * m) v 0 (λ q. omega arith),
+      getD-set-other t (b + m) (b + (2 * m + 1)) v 0 (λ q. omega arith),
+    ) e
+
+-- The sibling of node n: the children of n / 2 are n and its sibling.
+abbrev sibling : ℕ → ℕ
+sibling n = n + 1 - 2 * (n % 2)
+
+family : (t : List ℕ) (b n v : ℕ) → node t b n ≡ v → max v (node t b (sibling n)) ≡ max (node t b (2 * (n / 2))) (node t b (2 * (n / 2) + 1))
+family t b n v e = elim (ℕ-discrete (n % 2) 0) [
+  | yes z ↦ (let x : 2 * (n / 2) ≡ n = omega arith in
+      let y : n + 1 - 2 * (n % 2) ≡ n + 1 = omega arith in
+      rw (x, y) (omega arith))
+  | no z ↦ (let x : 2 * (n / 2) + 1 ≡ n = omega arith in
+      let y : n + 1 - 2 * (n % 2) ≡ 2 * (n / 2) = omega arith in
+      rw (x, y) (omega arith))
+]
+
+module _ (b : ℕ) (shape : Shape) (t : List ℕ) (place value : ℕ) (tree : Tree b shape t) (inside : place < shape .places) where
+  abbrev leaf : ℕ
+  leaf = shape .places + place
+
+  pub climb-start : Climb b (shape .places) (set t (b + leaf) value) (set t (b + leaf) value) leaf value
+  climb-start = record {
+    start = simp length-set (tree .words);
+    words = simp length-set (tree .words);
+    room = tree .room;
+    low = omega arith;
+    high = omega arith;
+    here = getD-set-same t (b + leaf) value 0 (omega (arith, tree .words, tree .room));
+    kept = λ k h. refl;
+    right = λ k x y z. right-set t b leaf value k (λ q. omega arith) (λ q. z (omega arith)) (λ q. z (omega arith)) (tree .right k x y);
+  }
+
+  pub climb-end : (u : List ℕ) (n v : ℕ) → Climb b (shape .places) (set t (b + leaf) value) u n v → n ≤ 1 → Stored b shape t place value u
+  climb-end u n v c z = record {
+    tree = record { power = tree .power; words = c .words; room = c .room; right = λ k x y. c .right k x y (λ q. omega arith) };
+    leaf = leaves-same (set t (b + leaf) value) u b (shape .places) (omega (arith, c .start, c .room)) (c .words ∙ sym (c .start))
+        (λ i l. c .kept (b + (shape .places + i)) (λ x y. omega arith))
+        ∙ leaves-set t b (shape .places) place value inside;
+    outside = λ k h. c .kept k (λ x y. h x (omega arith))
+        ∙ getD-set-other t (b + leaf) k value 0 (λ q. h (omega arith) (omega arith));
+  }
+
+module _ (b places : ℕ) (s t : List ℕ) (n v : ℕ) (c : Climb b places s t n v) (l : 1 < n) where
+  abbrev carried : ℕ
+  carried = max v (node t b (sibling n))
+
+  pub climb-up : Climb b places s (set t (b + n / 2) carried) (n / 2) carried
+  climb-up =
+      let inside : b + n / 2 < length t = omega (arith, c .high, c .words, c .room) in
+      record {
+        start = c .start;
+        words = simp length-set (c .words);
+        room = c .room;
+        low = omega arith;
+        high = omega (arith, c .high);
+        here = getD-set-same t (b + n / 2) carried 0 inside;
+        kept = λ k h. getD-set-other t (b + n / 2) k carried 0 (λ q. h (omega arith) (omega (arith, c .high))) ∙ c .kept k h;
+        right = λ k x y z. elim (ℕ-discrete k (n / 2)) [
+          | yes q ↦ rw q (right-here t b (n / 2) carried (omega arith) inside (family t b n v (c .here)))
+          | no q ↦ right-set t b (n / 2) carried k q (λ e. z (omega arith)) (λ e. z (omega arith)) (c .right k x y q)
+        ];
+      }
+
+  -- A parent that holds the maximum already is right, and so is every other node: the climb stands as at the root.
+  pub climb-stop : node t b (n / 2) ≡ carried → Climb b places s t 1 (node t b 1)
+  climb-stop e = record {
+    start = c .start;
+    words = c .words;
+    room = c .room;
+    low = omega arith;
+    high = omega (arith, c .high);
+    here = refl;
+    kept = c .kept;
+    right = λ k x y z. elim (ℕ-discrete k (n / 2)) [
+      | yes q ↦ rw q (e ∙ family t b n v (c .here))
+      | no q ↦ c .right k x y q
+    ];
+  }

@@ -1,0 +1,158 @@
+-- The descent: the leaves below a node are those of its left child and then those of its right child, and no leaf is above its node. Assumes nothing.
+use mathlib.Core.Path.{_≡_, refl, sym, ap, subst}
+use mathlib.Core.Bool.{cond}
+use mathlib.Core.List.{List}
+use Prim.Native.Nat.{ℕ, zero, suc, _+_, _-_, _*_, _^_, _≤_, _<_}
+use native.Mathlib.Nat.{mul-add, add-mul, mul-assoc, one-mul, two-pow-succ, le-of-eq, mul-le-mul-left}
+use native.Mathlib.Numerals.{sub-one}
+use native.Mathlib.Decide.{decLe}
+use native.Mathlib.Omega.{arith}
+use lib.Dec.{leb}
+use lib.ListN.{length}
+use lib.Pow.{pow-pos}
+use borrow.Author.Tests.{le-leb, lt-leb}
+use Rattle.tournament.specs.declared.Shape.{Shape}
+use Rattle.tournament.specs.declared.Found.the-variants.{At, Nothing}
+use Rattle.tournament.specs.Trees.{node, leaves, Right, Tree}
+use Rattle.tournament.specs.FirstFit.{firstFit}
+use Rattle.tournament.specs.Descent.{Under, Descent, First}
+use Rattle.tournament.proofs.Fits.{lowest-found, lacking-found}
+use Rattle.tournament.proofs.Leaves.{leaf-node, leaves-length}
+
+-- Where the leaves below a node begin and end, a level down.
+left-begins : (n h : ℕ) → n * 2 ^ suc h ≡ (2 * n) * 2 ^ h
+left-begins n h = rw two-pow-succ (omega (arith, mul-add n (2 ^ h) (2 ^ h), mul-assoc 2 n (2 ^ h)))
+
+ends : (n h : ℕ) → (n + 1) * 2 ^ h ≡ n * 2 ^ h + 2 ^ h
+ends n h = omega (arith, add-mul n 1 (2 ^ h), one-mul (2 ^ h))
+
+right-ends : (n h : ℕ) → (n + 1) * 2 ^ suc h ≡ (2 * n + 1 + 1) * 2 ^ h
+right-ends n h = omega (arith, left-begins n h, two-pow-succ h, ends n (suc h), ends (2 * n) h, ends (2 * n + 1) h)
+
+-- What is known of a node at height h, not 0, by the height g of its children.
+pub record Halved (t : List ℕ) (b n h g : ℕ) : Type 0 where
+  pub here : Right t b n
+  pub left : Under t b (2 * n) g
+  pub right : Under t b (2 * n + 1) g
+  pub begins : n * 2 ^ h ≡ (2 * n) * 2 ^ g
+  pub middle : (2 * n + 1) * 2 ^ g ≡ (2 * n) * 2 ^ g + 2 ^ g
+  pub end : (2 * n + 1 + 1) * 2 ^ g ≡ (2 * n + 1) * 2 ^ g + 2 ^ g
+  pub last : (n + 1) * 2 ^ h ≡ (2 * n + 1 + 1) * 2 ^ g
+  pub child : 2 * n + 1 < (n + 1) * 2 ^ h
+
+pub halved : (t : List ℕ) (b n h : ℕ) → (h ≡ 0 → ⊥) → Under t b n h → Halved t b n h (h - 1)
+unfolding Under
+halved t b n zero z u = absurd (z refl)
+halved t b n (suc h) z u = subst (λ (g : ℕ). Halved t b n (suc h) g) (sym (sub-one (suc h))) (record {
+  here = u .0;
+  left = u .1 .0;
+  right = u .1 .1;
+  begins = left-begins n h;
+  middle = ends (2 * n) h;
+  end = ends (2 * n + 1) h;
+  last = right-ends n h;
+  child = omega (arith, right-ends n h, mul-le-mul-left (2 * n + 1 + 1) (pow-pos h));
+})
+
+-- No leaf below a node is above it.
+leaf-below : (t : List ℕ) (b h n k : ℕ) → Under t b n h → n * 2 ^ h ≤ k → k < (n + 1) * 2 ^ h → node t b k ≤ node t b n
+unfolding Under
+leaf-below t b zero n k u x y = le-of-eq (ap (λ (i : ℕ). node t b i) (omega arith))
+leaf-below t b (suc h) n k u x y = elim (decLe ((2 * n + 1) * 2 ^ h) k) [
+  | yes l ↦ omega (arith, leaf-below t b h (2 * n + 1) k (u .1 .1) l (omega (arith, right-ends n h)), u .0)
+  | no l ↦ omega (arith, leaf-below t b h (2 * n) k (u .1 .0) (omega (arith, left-begins n h)) (omega (arith)), u .0)
+]
+
+-- One level of the descent: the left child where it holds enough, else the right one.
+module _ (t : List ℕ) (b n h need : ℕ) (z : h ≡ 0 → ⊥) (d : Descent t b n h need) where
+  abbrev chosen : ℕ
+  chosen = cond (leb need (node t b (2 * n))) (2 * n) (2 * n + 1)
+
+  half : Halved t b n h (h - 1)
+  half = halved t b n h z (d .under)
+
+  pub child-inside : b + (2 * n + 1) < 5120
+  child-inside = omega (arith, half .child, d .room)
+
+  pub down : Descent t b chosen (h - 1) need
+  down = elim (decLe need (node t b (2 * n))) [
+    | yes y ↦ rw (le-leb need (node t b (2 * n)) y)
+        (record { under = half .left; room = omega (arith, half .last, half .end, d .room); enough = y })
+    | no y ↦ rw (lt-leb need (node t b (2 * n)) (omega (arith, y)))
+        (record { under = half .right; room = omega (arith, half .last, d .room); enough = omega (arith, half .here, d .enough, y) })
+  ]
+
+  from-left : (r : ℕ) → First t b (2 * n) (h - 1) need r → First t b n h need r
+  from-left r f = record {
+    low = omega (arith, f .low, half .begins);
+    high = omega (arith, f .high, half .last, half .end);
+    enough = f .enough;
+    before = λ k x y. f .before k (omega (arith, half .begins)) y;
+  }
+
+  from-right : (r : ℕ) → node t b (2 * n) < need → First t b (2 * n + 1) (h - 1) need r → First t b n h need r
+  from-right r l f = record {
+    low = omega (arith, f .low, half .begins, half .middle);
+    high = omega (arith, f .high, half .last);
+    enough = f .enough;
+    before = λ k x y. elim (decLe ((2 * n + 1) * 2 ^ (h - 1)) k) [
+      | yes q ↦ f .before k q y
+      | no q ↦ omega (arith, leaf-below t b (h - 1) (2 * n) k (half .left) (omega (arith, half .begins)) (omega arith))
+    ];
+  }
+
+  pub up : (r : ℕ) → First t b chosen (h - 1) need r → First t b n h need r
+  up r f = elim (decLe need (node t b (2 * n))) [
+    | yes y ↦ from-left r (rw (le-leb need (node t b (2 * n)) y) at f)
+    | no y ↦ from-right r (omega (arith, y)) (rw (lt-leb need (node t b (2 * n)) (omega (arith, y))) at f)
+  ]
+
+-- A leaf that holds enough is the one found below itself.
+pub bottom : (t : List ℕ) (b n need : ℕ) → need ≤ node t b n → First t b n 0 need n
+bottom t b n need l = record { low = omega arith; high = omega arith; enough = l; before = λ k x y. absurd (omega arith) }
+
+-- The descent from the root.
+module _ (b : ℕ) (shape : Shape) (t : List ℕ) (tree : Tree b shape t) where
+  all-under : (h n : ℕ) → 1 ≤ n → (n + 1) * 2 ^ h ≤ 2 * shape .places → Under t b n h
+  unfolding Under
+  all-under zero n x y = tt
+  all-under (suc h) n x y = (
+    tree .right n x (omega (arith, right-ends n h, mul-le-mul-left (2 * n + 1 + 1) (pow-pos h))),
+    (
+      all-under h (2 * n) (omega arith) (omega (arith, right-ends n h, ends (2 * n + 1) h)),
+      all-under h (2 * n + 1) (omega arith) (omega (arith, right-ends n h)),
+    ),
+  )
+
+  root-under : Under t b 1 (shape .height)
+  root-under = all-under (shape .height) 1 (omega arith) (omega (arith, tree .power))
+
+  pub root-inside : b + 1 < 5120
+  root-inside = omega (arith, tree .power, tree .room, pow-pos (shape .height))
+
+  count : length (leaves t b (shape .places)) ≡ shape .places
+  count = leaves-length t b (shape .places) (omega (arith, tree .words, tree .room))
+
+  pub root : (need : ℕ) → need ≤ node t b 1 → Descent t b 1 (shape .height) need
+  root need l = record { under = root-under; room = omega (arith, tree .power, tree .room); enough = l }
+
+  pub root-found : (need leaf : ℕ) → First t b 1 (shape .height) need leaf
+      → At (leaf - shape .places) ≡ firstFit need (leaves t b (shape .places))
+  root-found need leaf f =
+      let place = leaf - shape .places in
+      let node-of : shape .places + place ≡ leaf = omega (arith, f .low, tree .power) in
+      let inside : place < shape .places = omega (arith, f .high, f .low, tree .power) in
+      sym (lowest-found need (leaves t b (shape .places)) place (record {
+        inside = omega (arith, count);
+        enough = rw (leaf-node t b (shape .places) place inside, node-of) (f .enough);
+        before = λ k l. let below : k < shape .places = omega arith in
+            rw (leaf-node t b (shape .places) k below)
+            (f .before (shape .places + k) (omega (arith, tree .power)) (omega arith));
+      }))
+
+  pub root-lacking : (need : ℕ) → node t b 1 < need → Nothing ≡ firstFit need (leaves t b (shape .places))
+  root-lacking need l =
+      sym (lacking-found need (leaves t b (shape .places)) (λ k x.
+      let inside : k < shape .places = omega (arith, count) in
+      rw (leaf-node t b (shape .places) k inside)
+      (omega (arith, leaf-below t b (shape .height) 1 (shape .places + k) root-under (omega (arith, tree .power)) (omega (arith, tree .power))))))

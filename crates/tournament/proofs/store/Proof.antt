@@ -1,0 +1,115 @@
+-- `store` meets its contract. The invariant: every node is right but the parent of n. The measure is n. Assumes nothing.
+use native.Mathlib.Omega.{arith}
+use Rattle.tournament.proofs.Climb.{Climb, climb-start, climb-up, climb-stop, climb-end}
+use Rattle.tournament.proofs.store.Statement.{statement}
+use Rattle.tournament.proofs.store.Tie as tie
+
+abbrev Inv-loop : tie.InvT-loop
+Inv-loop t₀ base place value places n₀ largest₀ t n largest = Climb base places t₀ t n largest
+
+abbrev μ-loop : tie.MeasureT-loop
+μ-loop t₀ base place value places n₀ largest₀ t n largest = n
+
+add-n : tie.Need-add-n Inv-loop μ-loop
+add-n c = omega arith
+
+add-t : tie.Need-add-t Inv-loop μ-loop
+add-t c = omega arith
+
+mul-t : tie.Need-mul-t Inv-loop μ-loop
+mul-t c = omega arith
+
+element-write-t : tie.Need-element-write-t Inv-loop μ-loop
+element-write-t c = omega arith
+
+loop-holds : tie.Need-loop-holds Inv-loop μ-loop
+loop-holds c = climb-start _ _ _ _ _ (c .pre .0) (c .pre .1)
+
+add-sibling : tie.Need-add-sibling Inv-loop μ-loop
+add-sibling c = omega arith
+
+mul-sibling : tie.Need-mul-sibling Inv-loop μ-loop
+mul-sibling c = omega arith
+
+sub-sibling : tie.Need-sub-sibling Inv-loop μ-loop
+sub-sibling c = omega arith
+
+add-larger : tie.Need-add-larger Inv-loop μ-loop
+add-larger c = omega arith
+
+mul-larger : tie.Need-mul-larger Inv-loop μ-loop
+mul-larger c = omega arith
+
+element-copy-out-larger : tie.Need-element-copy-out-larger Inv-loop μ-loop
+element-copy-out-larger c = omega arith
+
+larger-requires : tie.Need-larger-requires Inv-loop μ-loop
+larger-requires c κs = tt
+
+add-if1 : tie.Need-add-if1 Inv-loop μ-loop
+add-if1 c = omega arith
+
+mul-if1 : tie.Need-mul-if1 Inv-loop μ-loop
+mul-if1 c = omega arith
+
+element-copy-out-if1 : tie.Need-element-copy-out-if1 Inv-loop μ-loop
+element-copy-out-if1 c = omega arith
+
+returns : tie.Need-returns Inv-loop μ-loop
+returns c =
+    let turn = c .before .before .before .before in
+    let at-loop = turn .before in
+    climb-end _ _ _ _ _ (at-loop .before .pre .0) (at-loop .before .pre .1) _ _ _
+    (climb-stop _ _ _ _ _ _ (at-loop .loop .inv) (omega (arith, turn .loop-test .taken)) (omega (arith, c .if1 .taken, c .before .before .larger .ensures)))
+    (omega arith)
+
+add-t-2 : tie.Need-add-t-2 Inv-loop μ-loop
+add-t-2 c = omega arith
+
+mul-t-2 : tie.Need-mul-t-2 Inv-loop μ-loop
+mul-t-2 c = omega arith
+
+element-write-t-2 : tie.Need-element-write-t-2 Inv-loop μ-loop
+element-write-t-2 c = omega arith
+
+loop-less : tie.Need-loop-less Inv-loop μ-loop
+loop-less c = omega arith
+
+loop-again : tie.Need-loop-again Inv-loop μ-loop
+loop-again c =
+    let turn = c .before .before .before .before in
+    rw (c .before .before .larger .ensures) (climb-up _ _ _ _ _ _ (turn .before .loop .inv) (omega (arith, turn .loop-test .taken)))
+
+returns-2 : tie.Need-returns-2 Inv-loop μ-loop
+returns-2 c =
+    let start = c .before .before in
+    climb-end _ _ _ _ _ (start .pre .0) (start .pre .1) _ _ _ (c .before .loop .inv) (omega arith)
+
+pub store-spec : {M : Type 1} → statement M
+store-spec =
+    tie.close
+    (tie.spec
+    Inv-loop
+    μ-loop
+    add-n
+    add-t
+    mul-t
+    element-write-t
+    loop-holds
+    add-sibling
+    mul-sibling
+    sub-sibling
+    add-larger
+    mul-larger
+    element-copy-out-larger
+    larger-requires
+    add-if1
+    mul-if1
+    element-copy-out-if1
+    returns
+    add-t-2
+    mul-t-2
+    element-write-t-2
+    loop-less
+    loop-again
+    returns-2)
