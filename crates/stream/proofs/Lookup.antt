@@ -4,10 +4,10 @@ use Prim.Native.Nat.{ℕ, _+_, _<_}
 use native.Mathlib.Numerals.{add-one}
 use mathlib.Core.List.{List}
 use lib.ListN.{length, drop, getD}
-use lib.Seq.{drop-cons, drop-length}
+use lib.Seq.{drop-cons}
 use borrow.Author.Tests.{eq-eqb, ne-eqb}
 use Rattle.packing.specs.declared.{WidthRow.WidthRow}
-use Rattle.packing.specs.declared.Width.the-variants.{Known, Unknown}
+use Rattle.packing.specs.declared.Width.the-variants.{Known}
 use Rattle.packing.specs.Streams.{lookup}
 
 module _ (opcode : ℕ) (rows : List WidthRow) (i : ℕ) (d : WidthRow) where
@@ -20,8 +20,3 @@ module _ (opcode : ℕ) (rows : List WidthRow) (i : ℕ) (d : WidthRow) where
   pub passed : i < length rows → (getD rows i d .opcode ≡ opcode → ⊥) → lookup opcode (drop i rows) ≡ lookup opcode (drop (i + 1) rows)
   unfolding lookup
   passed h e = rw (drop-cons rows i d h, ne-eqb _ _ e, add-one)
-
--- Past the last row nothing is known.
-pub none-left : (opcode : ℕ) (rows : List WidthRow) (i : ℕ) → i ≡ length rows → lookup opcode (drop i rows) ≡ Unknown
-unfolding lookup
-none-left opcode rows i e = rw (e, drop-length rows)

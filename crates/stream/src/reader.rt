@@ -41,19 +41,21 @@ pub enum Summary {
     Refused(StreamReason, usize),
 }
 
-// The operand width of a command byte.
+// The operand width of a command byte: that of the first row that has it, so the rows are tried from the last to the first. (With no way out of
+// the loop the compiler makes constants of the table; with one it lays the table in memory at each call.)
 pub fn width_of(opcode: u8) -> Width
     ensures { λ r. ⌜ r ≡ lookup opcode widths ⌝ }
 {
-    let mut i: usize = 0;
-    while i < ROWS {
+    let mut found = Width::Unknown;
+    let mut i: usize = ROWS;
+    while 0 < i {
+        i -= 1;
         let row = WIDTHS[i];
         if row.opcode == opcode {
-            return Width::Known(row.width);
+            found = Width::Known(row.width);
         }
-        i += 1;
     }
-    Width::Unknown
+    found
 }
 
 // An unsigned operand of up to 4 bytes, most significant byte first.
