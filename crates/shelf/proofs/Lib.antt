@@ -1,0 +1,3 @@
+-- That every figure of a result fits its place in the number that C and Rust get.
+pub mod Offsets
+pub mod Places

@@ -1,0 +1,37 @@
+-- `shelve` meets its contract: the equations are those of the stream's call, and what holds of an accepted stream is a theorem about the model.
+-- Assumes nothing.
+use borrow.Author.Needs.{needs}
+use Rattle.packing.proofs.Theorems.{never-overfull, loads-add-up, counts}
+use Rattle.worst_case.proofs.OwnPlan.{own-plan-of-stream}
+use Rattle.worst_case.proofs.WorstCase.{worst-case-of-stream}
+use Rattle.shelf.proofs.shelve.Statement.{statement}
+use Rattle.shelf.proofs.shelve.Tie as tie
+
+shelve-requires : tie.Need-shelve-requires
+shelve-requires c κs = search needs
+
+same-length : tie.Need-same-length
+same-length c = search needs
+
+returns : tie.Need-returns
+returns c =
+    let d = c .before .before in
+    let s = d .before .before .before .before in (
+      d .shelve .ensures .0,
+      (
+        d .shelve .ensures .1,
+        (
+          λ o cs e. counts o cs,
+          (
+            λ o cs e. never-overfull o cs,
+            (
+              λ o cs e. loads-add-up o cs,
+              (own-plan-of-stream (s .args .stream .now) (s .args .answers .now), worst-case-of-stream (s .args .stream .now) (s .args .answers .now)),
+            ),
+          ),
+        ),
+      ),
+    )
+
+pub shelve-spec : {M : Type 1} → statement M
+shelve-spec = tie.close (tie.spec shelve-requires same-length returns)
