@@ -1,0 +1,31 @@
+-- "Worked shelves": what is printed of the sample of document 01, whole, and of the shortest streams.
+use mathlib.Core.Path.{_≡_, refl}
+use mathlib.Core.List.{List, [], _∷_, map, zipWith, flatten}
+use Prim.Native.Nat.{ℕ}
+use Prim.Native.Char.{code}
+use Prim.Native.String.{String}
+use Prim.Native.String.{[] as end-of-text, _∷_ as _before_}
+use Rattle.packing.specs.Placing.{firstFit, put, outcome, placed}
+use Rattle.packing.specs.Prelude.{total, any}
+use Rattle.packing.specs.SizeClasses.{sizeClass}
+use Rattle.packing.specs.Streams.{widths, lookup, commands, read}
+use Rattle.packing.specs.Run.{numbered, outcomesFrom}
+use Rattle.packing.specs.Worked.{sample}
+use Rattle.report.specs.Lines.{digits, decimal, line, text, lentRow, printed}
+
+-- A text as bytes.
+unfoldable pub bytes : String → List ℕ
+bytes end-of-text = []
+bytes (c before s) = code c ∷ bytes s
+
+-- Streams beside what is printed of them: the sample, an opening alone, and no stream at all.
+unfoldable pub table : List (List ℕ × String)
+table =
+    (sample, "P 1 1\nP 2 2\nP 3 2\nP 4 3\nP 5 3\nP 6 4\nP 7 1\nR 8 10\nC 9 4\nP 10 4\nT 8 4\n") ∷
+    (0x01 ∷ 0 ∷ 0 ∷ 0 ∷ 0x3C ∷ 0 ∷ 4 ∷ 6 ∷ [], "T 0 0\n") ∷
+    ([], "X 1 0\n") ∷
+    []
+
+pub worked-texts : map (λ c. printed (c .0)) table ≡ map (λ c. bytes (c .1)) table
+unfolding table bytes printed text lentRow line decimal digits numbered sizeClass total any firstFit put outcome placed outcomesFrom zipWith flatten widths lookup commands read
+worked-texts = refl

@@ -1,0 +1,34 @@
+-- `show` is safe: what is printed stands inside its row. Assumes nothing.
+use borrow.Author.Needs.{needs}
+use Rattle.report.proofs.Texts.{print-inside, print-length}
+use Rattle.shelve_cases.proofs.show.Statement.{statement}
+use Rattle.shelve_cases.proofs.show.Tie as tie
+
+write-all-requires : tie.Need-write-all-requires
+write-all-requires c κs = search needs
+
+print-requires : tie.Need-print-requires
+print-requires c κs = search needs
+
+array-share-prefix-out : tie.Need-array-share-prefix-out
+array-share-prefix-out c = print-inside _ _ _ _ (c .print .ensures .0) (c .print .ensures .1)
+
+slice-aggregate-write-all : tie.Need-slice-aggregate-write-all
+slice-aggregate-write-all c = print-length _ _ _ _ (c .before .print .ensures .0) (c .before .print .ensures .1)
+
+write-all-requires-2 : tie.Need-write-all-requires-2
+write-all-requires-2 c κs = search needs
+
+returns : tie.Need-returns
+returns c = search needs
+
+pub show-spec : {M : Type 1} → statement M
+show-spec =
+    tie.close
+    (tie.spec
+    write-all-requires
+    print-requires
+    array-share-prefix-out
+    slice-aggregate-write-all
+    write-all-requires-2
+    returns)

@@ -1,0 +1,152 @@
+// What is printed of streams at the edges of document 01: each case writes its name and then the text. The expected text of all cases is the file
+// stdout, which the gate compares.
+use libc::STDOUT_FILENO;
+ghost use Prim.Native.Nat.{_≤_};
+ghost use lib.ListN.{length};
+
+// one byte more than the longest stream
+const SPACE: usize = 32769;
+
+// A stream's text.
+fn show(name: &[u8], stream: &[u8]) {
+    io::write_all(STDOUT_FILENO, name);
+    let mut out = [0u8; report::N];
+    let end = report::print(stream, &mut out);
+    io::write_all(STDOUT_FILENO, &out[..end]);
+}
+
+// Of a long text, its length and its last bytes.
+fn show_end(name: &[u8], stream: &[u8], last: usize) {
+    io::write_all(STDOUT_FILENO, name);
+    let mut out = [0u8; report::N];
+    let end = report::print(stream, &mut out);
+    io::print_decimal(STDOUT_FILENO, end as u64);
+    io::write_all(STDOUT_FILENO, b" bytes, the last of them:\n");
+    if last <= end {
+        let from = end - last;
+        io::write_all(STDOUT_FILENO, &out[from..end]);
+    }
+}
+
+// The first n bytes of a row; the whole row, where it has fewer.
+fn front(s: &[u8; SPACE], n: usize) -> &[u8] {
+    let row: &[u8] = s;
+    if n <= row.len() {
+        return &row[..n];
+    }
+    row
+}
+
+// Puts a byte at a place, where there is space for it, and answers the next place.
+fn put(s: &mut [u8; SPACE], at: usize, byte: u8) -> usize {
+    if at < SPACE {
+        s[at] = byte;
+        return at + 1;
+    }
+    SPACE
+}
+
+// Puts n bytes from a place on, the row over and over, and answers the place behind them.
+fn fill(s: &mut [u8; SPACE], from: usize, n: usize, row: &[u8]) -> usize
+    requires { ⌜ 1 ≤ length (now row) ⌝ }
+{
+    let mut at = from;
+    for i in 0..n {
+        at = put(s, at, row[i % row.len()]);
+    }
+    at
+}
+
+// Each refusal of a stream but 6 and 7: 7 cannot occur, since `print` lends 4,096 words.
+fn refusals() {
+    show(b"empty\n", b"");
+    show(b"1, first byte 03\n", b"\x03");
+    show(b"2, byte 04\n", b"\x01\0\0\0\x3c\0\x04\x06\x04");
+    show(
+        b"2, byte 00 after an item\n",
+        b"\x01\0\0\0\x3c\0\x04\x06\x02\0\0\0\x16\0",
+    );
+    show(b"3, opening cut\n", b"\x01\0\0\0\x3c\0\x04");
+    show(b"3, item cut\n", b"\x01\0\0\0\x3c\0\x04\x06\x02\0\0\0");
+    show(
+        b"4, second opening\n",
+        b"\x01\0\0\0\x3c\0\x04\x06\x03\x01\0\0\0\x3c\0\x04\x06",
+    );
+    show(b"5, all operands 0\n", b"\x01\0\0\0\0\0\0\0");
+}
+
+// Two faults: at one command the order is 1, 6, 2, 4, 3, 5, and of two commands the earlier decides.
+fn orders() {
+    show(b"4 before 3\n", b"\x01\0\0\0\x3c\0\x04\x06\x01\0");
+    show(b"3 before 5\n", b"\x01\0\0\0\0\0\0");
+    show(b"5 before 2\n", b"\x01\0\0\0\0\0\x04\x06\x04");
+    show(
+        b"2 before 4, the earlier command\n",
+        b"\x01\0\0\0\x3c\0\x04\x06\x04\x01",
+    );
+}
+
+// The opening at its limits and past them.
+fn limits() {
+    show(b"capacity 0\n", b"\x01\0\0\0\0\0\x04\x06");
+    show(b"capacity 1\n", b"\x01\0\0\0\x01\0\x04\x06");
+    show(b"capacity 16777216\n", b"\x01\x01\0\0\0\0\x04\x06");
+    show(b"capacity 16777217\n", b"\x01\x01\0\0\x01\0\x04\x06");
+    show(b"stock 0\n", b"\x01\0\0\0\x3c\0\0\x06");
+    show(b"stock 1\n", b"\x01\0\0\0\x3c\0\x01\x06");
+    show(b"stock 512\n", b"\x01\0\0\0\x3c\x02\0\x06");
+    show(b"stock 513\n", b"\x01\0\0\0\x3c\x02\x01\x06");
+    show(b"m 5\n", b"\x01\0\0\0\x3c\0\x04\x05");
+    show(b"m 6\n", b"\x01\0\0\0\x3c\0\x04\x06");
+    show(b"m 9\n", b"\x01\0\0\0\x3c\0\x04\x09");
+    show(b"m 10\n", b"\x01\0\0\0\x3c\0\x04\x0a");
+}
+
+// An opening alone; then answers of each kind: a count before any item, sizes 0, 61 and 4294967295 at capacity 60, and the stock spent.
+fn answers() {
+    show(b"opening alone\n", b"\x01\0\0\0\x3c\0\x04\x06");
+    show(
+        b"8, 9, 10\n",
+        b"\x01\0\0\0\x3c\0\x01\x06\x03\x02\0\0\0\0\x02\0\0\0\x3d\x02\xff\xff\xff\xff\x02\0\0\0\x3c\x02\0\0\0\x3c\x03",
+    );
+}
+
+// As many commands as there may be, and one more, which is refused with 6 before any other fault of it.
+fn commands() {
+    let mut s = [0u8; SPACE];
+    let first = fill(&mut s, 0, 8, b"\x01\0\0\0\x3c\x02\0\x06");
+    let most = fill(&mut s, first, 4096, b"\x03");
+    show_end(b"4096 counts\n", front(&s, most), 15);
+    let full = put(&mut s, most, 3);
+    show(b"4097 counts\n", front(&s, full));
+    let unknown = put(&mut s, most, 4);
+    show(b"6 before 2\n", front(&s, unknown));
+    let cut = put(&mut s, most, 2);
+    show(b"6 before 3\n", front(&s, cut));
+    let second = put(&mut s, most, 1);
+    show(b"6 before 4\n", front(&s, second));
+    let faulty = put(&mut s, first, 4);
+    let later = fill(&mut s, faulty, 4096, b"\x03");
+    show(b"2 before 6, the earlier command\n", front(&s, later));
+}
+
+// As many items as there may be; a stream as long as it may be, and one byte longer.
+fn lengths() {
+    let mut s = [0u8; SPACE];
+    let first = fill(&mut s, 0, 8, b"\x01\0\0\0\x3c\x02\0\x06");
+    let most = fill(&mut s, first, 20480, b"\x02\0\0\0\x3c");
+    show_end(b"4096 items of 60\n", front(&s, most), 20);
+    let longest = fill(&mut s, most, 12280, b"\x02\0\0\0\x3c");
+    show(b"32768 bytes\n", front(&s, longest));
+    let longer = put(&mut s, longest, 3);
+    show(b"32769 bytes\n", front(&s, longer));
+}
+
+fn main() {
+    refusals();
+    orders();
+    limits();
+    answers();
+    commands();
+    lengths();
+}
