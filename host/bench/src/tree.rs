@@ -1,0 +1,172 @@
+//! The same algorithm by hand: tournament trees in safe Rust.
+
+/// Five trees of up to 512 leaves, the root at 1 and the leaves from `leaves`
+/// up. Trees 1 to 4 hold the free space of the bins of a class, tree 0 that of
+/// the bins with an A item. Everything else stands at 0, where nothing fits.
+type Trees = [Tree; 5];
+type Tree = [u32; 2 * MAX_LEAVES];
+
+const MAX_LEAVES: usize = 512;
+const WITH_A: usize = 0;
+
+/// The first leaf with space for this size; the root must have it.
+// Not inlined: the loop then has all the registers.
+#[inline(never)]
+fn find(tree: &Tree, leaves: usize, size: u32) -> usize {
+    let mut node = 1;
+    while node < leaves {
+        // The mask changes nothing, and is cheaper than a check of bounds.
+        node = 2 * node + usize::from(tree[2 * node % tree.len()] < size);
+    }
+    node
+}
+
+/// Sets a leaf's free space, and the maxima above as far as they change.
+#[inline(never)]
+fn store(tree: &mut Tree, leaf: usize, free: u32) {
+    // The mask changes nothing, and spares every check of bounds below.
+    let mut node = leaf % tree.len();
+    let mut largest = free;
+    tree[node] = free;
+    while node > 1 {
+        largest = largest.max(tree[node ^ 1]);
+        node /= 2;
+        if tree[node] == largest {
+            break;
+        }
+        tree[node] = largest;
+    }
+}
+
+struct Opening {
+    capacity: u32,
+    stock: usize,
+    m: u32,
+}
+
+fn refused(number: u64, offset: usize) -> u64 {
+    1 << 63 | number << 32 | offset as u64
+}
+
+/// Finds the first fault, or the opening and the number of commands.
+fn read(stream: &[u8]) -> Result<(Opening, usize), u64> {
+    let opening = match *stream {
+        [0x01, c0, c1, c2, c3, s0, s1, m, ..] => Opening {
+            capacity: u32::from_be_bytes([c0, c1, c2, c3]),
+            stock: u16::from_be_bytes([s0, s1]).into(),
+            m: m.into(),
+        },
+        [0x01, ..] => return Err(refused(3, 0)),
+        _ => return Err(refused(1, 0)),
+    };
+    if !(1..=16_777_216).contains(&opening.capacity)
+        || !(1..=512).contains(&opening.stock)
+        || !(6..=9).contains(&opening.m)
+    {
+        return Err(refused(5, 0));
+    }
+    let mut offset = 8;
+    let mut commands = 0;
+    while let Some(&byte) = stream.get(offset) {
+        if commands == 4096 {
+            return Err(refused(6, offset));
+        }
+        let len = match byte {
+            0x01 => return Err(refused(4, offset)),
+            0x02 => 5,
+            0x03 => 1,
+            _ => return Err(refused(2, offset)),
+        };
+        if stream.len() - offset < len {
+            return Err(refused(3, offset));
+        }
+        offset += len;
+        commands += 1;
+    }
+    Ok((opening, commands))
+}
+
+/// The packed result is that of the library's C interface.
+pub fn shelve(stream: &[u8], answers: &mut [u16]) -> u64 {
+    let (opening, commands) = match read(stream) {
+        Ok(read) => read,
+        Err(refused) => return refused,
+    };
+    if answers.len() < commands {
+        return refused(7, stream.len());
+    }
+    let Opening { capacity, stock, m } = opening;
+    let leaves = stock.next_power_of_two();
+    let mut trees: Trees = [[0; 2 * MAX_LEAVES]; 5];
+    let mut opened = 0;
+    let mut accepted = 0;
+    let mut to_next_m = m; // B2 items up to and with the next m-th
+
+    let mut rest = &stream[8..];
+    for word in &mut answers[..commands] {
+        let size = match *rest {
+            [0x02, s0, s1, s2, s3, ref after @ ..] => {
+                rest = after;
+                u32::from_be_bytes([s0, s1, s2, s3])
+            }
+            [_, ref after @ ..] => {
+                rest = after;
+                *word = opened as u16;
+                continue;
+            }
+            [] => break,
+        };
+        if size == 0 {
+            *word = 0x8000 + 8;
+            continue;
+        }
+        if size > capacity {
+            *word = 0x8000 + 9;
+            continue;
+        }
+        // Sizes are at most 2^24, so these products stay within 32 bits.
+        let tree = if 3 * size <= capacity {
+            4
+        } else if 2 * size > capacity {
+            1
+        } else if 5 * size > 2 * capacity {
+            2
+        } else if to_next_m > 1 {
+            3
+        } else {
+            WITH_A
+        };
+        let found = trees[tree][1] >= size;
+        let (leaf, free) = if found {
+            let leaf = find(&trees[tree], leaves, size);
+            (leaf, trees[tree][leaf % (2 * MAX_LEAVES)] - size)
+        } else if opened < stock {
+            opened += 1;
+            (leaves + opened - 1, capacity - size)
+        } else {
+            *word = 0x8000 + 10;
+            continue;
+        };
+        match tree {
+            WITH_A => {
+                if found {
+                    store(&mut trees[WITH_A], leaf, free);
+                }
+                store(&mut trees[1], leaf, free);
+                to_next_m = m;
+            }
+            1 => {
+                store(&mut trees[WITH_A], leaf, free);
+                store(&mut trees[1], leaf, free);
+            }
+            3 => {
+                store(&mut trees[3], leaf, free);
+                to_next_m -= 1;
+            }
+            _ => store(&mut trees[tree], leaf, free),
+        }
+        accepted += 1;
+        *word = (leaf - leaves + 1) as u16;
+    }
+    accepted << 16 | opened as u64
+}

@@ -1,0 +1,52 @@
+//! A panel's round: open a shelf, shelve, read the answers, check a plan.
+
+use shelf::{Answer, Command, Entry, StreamBuilder};
+
+fn main() {
+    const CAPACITY: u32 = 60;
+    let mut stream = StreamBuilder::open(CAPACITY, 4, 6);
+    for size in [35, 22, 22, 22, 22, 22, 22, 20, 61] {
+        stream.shelve(size);
+    }
+    stream.count();
+
+    let mut words = stream.answer_row();
+    let totals = match shelf::shelve(stream.bytes(), &mut words) {
+        Ok(totals) => totals,
+        Err(refusal) => {
+            eprintln!("{refusal}");
+            std::process::exit(1);
+        }
+    };
+
+    // The accepted masters and where they lie are a plan of their own.
+    let mut plan = Vec::new();
+    for answered in shelf::answers(stream.bytes(), &words) {
+        match answered {
+            (Command::Shelve { size }, Answer::Placed { bin }) => {
+                println!("master of {size}: cartridge {bin}");
+                let bin = bin.into();
+                plan.push(Entry { size, bin });
+            }
+            (Command::Shelve { size }, Answer::Refused(why)) => {
+                println!("master of {size}: refused {}, {why}", why.number());
+            }
+            (_, Answer::Counted { opened }) => println!("{opened} cartridges opened"),
+            (Command::Count, _) => unreachable!("a count is answered with a count"),
+        }
+    }
+    println!("{} masters in {} cartridges", totals.items, totals.opened);
+
+    let items: Vec<u32> = plan.iter().map(|entry| entry.size).collect();
+    match shelf::check_plan(&plan, &items, CAPACITY, totals.opened.into()) {
+        Ok(()) => println!("the shelf's own plan: passed"),
+        Err(refusal) => println!("the shelf's own plan: {refusal}"),
+    }
+
+    // Moving the first 22 beside the 35 and another 22 overfills cartridge 1.
+    plan[1].bin = 1;
+    match shelf::check_plan(&plan, &items, CAPACITY, totals.opened.into()) {
+        Ok(()) => println!("a crowded plan: passed"),
+        Err(refusal) => println!("a crowded plan: {refusal}"),
+    }
+}

@@ -1,0 +1,261 @@
+//! Safe calls into the proved shelving library: Refined First-Fit over a
+//! command stream, and the plan checker.
+//!
+//! Build a stream, lend it with a row of answer words, read the answers:
+//!
+//! ```
+//! use shelf::{Answer, ItemRefusal, StreamBuilder};
+//!
+//! let mut stream = StreamBuilder::open(60, 2, 6); // capacity 60, stock 2, every 6th B2
+//! stream.shelve(35).shelve(30).count().shelve(40);
+//!
+//! let mut words = stream.answer_row();
+//! let totals = shelf::shelve(stream.bytes(), &mut words).expect("a well-formed stream");
+//! assert_eq!((totals.items, totals.opened), (2, 2));
+//!
+//! let answers = shelf::answers(stream.bytes(), &words);
+//! let answers: Vec<Answer> = answers.map(|(_command, answer)| answer).collect();
+//! assert_eq!(answers, [
+//!     Answer::Placed { bin: 1 },
+//!     Answer::Placed { bin: 2 },
+//!     Answer::Counted { opened: 2 },
+//!     Answer::Refused(ItemRefusal::StockSpent),
+//! ]);
+//! ```
+//!
+//! The number of a bin is its place in the order of opening, from 1. Refusals
+//! keep the numbers 1 to 16 of the specification; `number` gives them.
+
+mod refusals;
+mod stream;
+
+pub use refusals::{ItemRefusal, PlanFault, PlanRefusal, StreamFault, StreamRefusal};
+pub use stream::{answers, Answer, Answers, Command, StreamBuilder};
+
+/// The largest capacity of a bin.
+pub const MAX_CAPACITY: u32 = 16_777_216;
+/// The most bins that a stock can have.
+pub const MAX_STOCK: u16 = 512;
+/// The most commands that may follow the opening.
+pub const MAX_COMMANDS: usize = 4_096;
+/// The most entries of a plan, the most items it is checked against, and the
+/// largest `k`.
+pub const MAX_ENTRIES: usize = 4_096;
+
+/// Set in the high half of a refused stream's result.
+const REFUSED: u32 = 1 << 31;
+
+mod ffi {
+    extern "C" {
+        pub fn shelve_stream(
+            stream: *const u8,
+            stream_len: usize,
+            answers: *mut u16,
+            answers_len: usize,
+        ) -> u64;
+
+        pub fn check_plan(
+            sizes: *const u32,
+            sizes_len: usize,
+            bins: *const u32,
+            bins_len: usize,
+            items: *const u32,
+            items_len: usize,
+            capacity: u32,
+            k: u32,
+        ) -> u64;
+    }
+}
+
+/// What an accepted stream returns.
+#[derive(Debug, Clone, Copy, PartialEq, Eq)]
+pub struct Totals {
+    /// The items accepted.
+    pub items: u16,
+    /// The bins opened.
+    pub opened: u16,
+}
+
+/// One entry of a plan: an item of `size` units lies in bin number `bin`.
+#[derive(Debug, Clone, Copy, PartialEq, Eq)]
+pub struct Entry {
+    /// The item's size.
+    pub size: u32,
+    /// The number of its bin, from 1.
+    pub bin: u32,
+}
+
+/// Shelves a whole stream.
+///
+/// On success word `n - 1` of `answers` holds the answer to command `n` after
+/// the opening (see [`answers`] to read it), and the words past the last
+/// command are untouched. A refused stream leaves every word untouched.
+///
+/// ```
+/// use shelf::StreamFault;
+///
+/// let refusal = shelf::shelve(&[0x03], &mut []).unwrap_err();
+/// assert_eq!(refusal.fault, StreamFault::NotOpened);
+/// assert_eq!((refusal.fault.number(), refusal.offset), (1, 0));
+/// ```
+pub fn shelve(stream: &[u8], answers: &mut [u16]) -> Result<Totals, StreamRefusal> {
+    // SAFETY: each pointer comes with the length of the slice it was taken
+    // from; `answers` is borrowed mutably, so it overlaps nothing; the library
+    // keeps neither the pointers nor any state after the call.
+    let result = unsafe {
+        ffi::shelve_stream(
+            stream.as_ptr(),
+            stream.len(),
+            answers.as_mut_ptr(),
+            answers.len(),
+        )
+    };
+    if let Ok(items) = u16::try_from(result >> 16) {
+        return Ok(Totals {
+            items,
+            opened: result as u16,
+        });
+    }
+    let number = (result >> 32) as u32 ^ REFUSED;
+    match StreamFault::from_number(number) {
+        Some(fault) => Err(StreamRefusal {
+            fault,
+            offset: result as u32 as usize,
+        }),
+        None => panic!("shelve_stream returned {result:#x}, which its interface excludes"),
+    }
+}
+
+/// Checks that `plan` packs `items`, in their order, into bins numbered 1 to
+/// `k` of the given capacity. A `k` larger than the bins used is permitted.
+///
+/// ```
+/// use shelf::{Entry, PlanFault};
+///
+/// let plan = [Entry { size: 30, bin: 1 }, Entry { size: 31, bin: 1 }];
+/// let refusal = shelf::check_plan(&plan, &[30, 31], 60, 1).unwrap_err();
+/// assert_eq!(refusal.fault, PlanFault::Overfull);
+/// assert_eq!((refusal.fault.number(), refusal.place), (15, 2));
+///
+/// assert!(shelf::check_plan(&plan, &[30, 31], 61, 1).is_ok());
+/// ```
+pub fn check_plan(plan: &[Entry], items: &[u32], capacity: u32, k: u32) -> Result<(), PlanRefusal> {
+    // A plan above the limit is refused for its length alone, so one entry
+    // past the limit tells the library as much as all of them.
+    let entries = plan.iter().take(MAX_ENTRIES + 1);
+    let (sizes, bins): (Vec<u32>, Vec<u32>) = entries.map(|e| (e.size, e.bin)).unzip();
+    check_plan_rows(&sizes, &bins, items, capacity, k)
+}
+
+/// The same for a plan that already lies in two rows: entry `i` is
+/// `(sizes[i], bins[i])`. Places that only one of the rows has are not part of
+/// the plan.
+pub fn check_plan_rows(
+    sizes: &[u32],
+    bins: &[u32],
+    items: &[u32],
+    capacity: u32,
+    k: u32,
+) -> Result<(), PlanRefusal> {
+    // SAFETY: each pointer comes with the length of the slice it was taken
+    // from, and the library only reads them, during the call.
+    let result = unsafe {
+        ffi::check_plan(
+            sizes.as_ptr(),
+            sizes.len(),
+            bins.as_ptr(),
+            bins.len(),
+            items.as_ptr(),
+            items.len(),
+            capacity,
+            k,
+        )
+    };
+    if result == 0 {
+        return Ok(());
+    }
+    match PlanFault::from_number((result >> 32) as u32) {
+        Some(fault) => Err(PlanRefusal {
+            fault,
+            place: result as u32 as usize,
+        }),
+        None => panic!("check_plan returned {result:#x}, which its interface excludes"),
+    }
+}
+
+#[cfg(test)]
+mod tests {
+    use super::*;
+
+    #[test]
+    fn empty_rows_are_fine() {
+        let opening = StreamBuilder::open(1, 1, 6).into_bytes();
+        let none = Totals {
+            items: 0,
+            opened: 0,
+        };
+        assert_eq!(shelve(&opening, &mut []), Ok(none));
+        assert_eq!(check_plan(&[], &[], 1, 0), Ok(()));
+        let refusal = shelve(&[], &mut []).unwrap_err();
+        assert_eq!((refusal.fault.number(), refusal.offset), (1, 0));
+    }
+
+    #[test]
+    fn largest_totals_survive_packing() {
+        let mut stream = StreamBuilder::open(MAX_CAPACITY, MAX_STOCK, 9);
+        for _ in 0..MAX_STOCK {
+            stream.shelve(MAX_CAPACITY);
+        }
+        let mut words = stream.answer_row();
+        let totals = shelve(stream.bytes(), &mut words).unwrap();
+        assert_eq!((totals.items, totals.opened), (512, 512));
+        assert_eq!(words[511], 512);
+
+        let mut small = StreamBuilder::open(MAX_COMMANDS as u32 * 3, 1, 6);
+        for _ in 0..MAX_COMMANDS {
+            small.shelve(1);
+        }
+        let mut words = small.answer_row();
+        let totals = shelve(small.bytes(), &mut words).unwrap();
+        assert_eq!((totals.items, totals.opened), (4096, 1));
+    }
+
+    #[test]
+    fn a_plan_above_the_limit_is_refused_for_its_length() {
+        let plan = vec![Entry { size: 1, bin: 1 }; MAX_ENTRIES + 5];
+        let items = vec![1; MAX_ENTRIES];
+        let refusal = check_plan(&plan, &items, MAX_CAPACITY, 1).unwrap_err();
+        assert_eq!((refusal.fault.number(), refusal.place), (12, 0));
+        let refusal = check_plan(&plan, &items, 0, 1).unwrap_err();
+        assert_eq!((refusal.fault.number(), refusal.place), (11, 0));
+        assert_eq!(
+            check_plan(&plan[..MAX_ENTRIES], &items, MAX_CAPACITY, 1),
+            Ok(())
+        );
+    }
+
+    #[test]
+    fn only_common_places_of_two_rows_are_the_plan() {
+        assert_eq!(check_plan_rows(&[30, 9, 9], &[1], &[30], 60, 1), Ok(()));
+        let refusal = check_plan_rows(&[30, 30], &[1], &[30, 30], 60, 1).unwrap_err();
+        assert_eq!((refusal.fault.number(), refusal.place), (16, 2));
+    }
+
+    #[test]
+    fn numbers_and_faults_go_both_ways() {
+        for number in 0..=20 {
+            let found = [
+                StreamFault::from_number(number).map(StreamFault::number),
+                ItemRefusal::from_number(number).map(ItemRefusal::number),
+                PlanFault::from_number(number).map(PlanFault::number),
+            ];
+            let known: Vec<u32> = found.into_iter().flatten().collect();
+            let expected: &[u32] = if (1..=16).contains(&number) {
+                &[number]
+            } else {
+                &[]
+            };
+            assert_eq!(known, expected);
+        }
+    }
+}

@@ -1,0 +1,189 @@
+//! Streams as bytes, and answers as words.
+
+use crate::ItemRefusal;
+
+const OPEN: u8 = 0x01;
+const SHELVE: u8 = 0x02;
+const COUNT: u8 = 0x03;
+
+const OPENING_LEN: usize = 8;
+
+/// An answer word with this bit carries a refusal's number.
+const REFUSED: u16 = 0x8000;
+
+/// Writes a stream: an opening, then commands.
+///
+/// Limits are the library's business; whatever fits the operands' width can be
+/// written.
+///
+/// ```
+/// let mut stream = shelf::StreamBuilder::open(60, 4, 6);
+/// stream.shelve(35).count();
+/// assert_eq!(stream.commands(), 2);
+/// assert_eq!(stream.bytes(), [1, 0, 0, 0, 60, 0, 4, 6, 2, 0, 0, 0, 35, 3]);
+/// ```
+#[derive(Debug, Clone, PartialEq, Eq)]
+pub struct StreamBuilder {
+    bytes: Vec<u8>,
+    commands: usize,
+}
+
+impl StreamBuilder {
+    /// A stream with its opening: the capacity of a bin, the stock of bins,
+    /// and `m` (every `m`-th B2 item goes beside an A item).
+    pub fn open(capacity: u32, stock: u16, m: u8) -> Self {
+        let mut bytes = vec![OPEN];
+        bytes.extend(capacity.to_be_bytes());
+        bytes.extend(stock.to_be_bytes());
+        bytes.push(m);
+        Self { bytes, commands: 0 }
+    }
+
+    /// Shelve an item of this size.
+    pub fn shelve(&mut self, size: u32) -> &mut Self {
+        self.bytes.push(SHELVE);
+        self.bytes.extend(size.to_be_bytes());
+        self.commands += 1;
+        self
+    }
+
+    /// Ask how many bins are opened.
+    pub fn count(&mut self) -> &mut Self {
+        self.bytes.push(COUNT);
+        self.commands += 1;
+        self
+    }
+
+    /// The number of commands after the opening.
+    pub fn commands(&self) -> usize {
+        self.commands
+    }
+
+    /// The stream so far.
+    pub fn bytes(&self) -> &[u8] {
+        &self.bytes
+    }
+
+    /// The finished stream.
+    pub fn into_bytes(self) -> Vec<u8> {
+        self.bytes
+    }
+
+    /// A row of answer words just long enough for this stream.
+    pub fn answer_row(&self) -> Vec<u16> {
+        vec![0; self.commands]
+    }
+}
+
+/// The answer to one command.
+#[derive(Debug, Clone, Copy, PartialEq, Eq)]
+pub enum Answer {
+    /// The item lies in this bin.
+    Placed {
+        /// The bin's number, from 1.
+        bin: u16,
+    },
+    /// So many bins are opened.
+    Counted {
+        /// The number of bins.
+        opened: u16,
+    },
+    /// The item was refused, and left everything as it was.
+    Refused(ItemRefusal),
+}
+
+impl Answer {
+    /// Reads the answer word of a shelve command. `None` if it is no word that
+    /// the library writes.
+    ///
+    /// ```
+    /// use shelf::{Answer, ItemRefusal};
+    ///
+    /// assert_eq!(Answer::to_shelve(7), Some(Answer::Placed { bin: 7 }));
+    /// assert_eq!(
+    ///     Answer::to_shelve(32_768 + 10),
+    ///     Some(Answer::Refused(ItemRefusal::StockSpent)),
+    /// );
+    /// assert_eq!(Answer::to_shelve(0), None);
+    /// ```
+    pub fn to_shelve(word: u16) -> Option<Self> {
+        if word & REFUSED != 0 {
+            ItemRefusal::from_number((word & !REFUSED).into()).map(Self::Refused)
+        } else {
+            (word != 0).then_some(Self::Placed { bin: word })
+        }
+    }
+
+    /// Reads the answer word of a count command, where every word is a count.
+    pub fn to_count(word: u16) -> Self {
+        Self::Counted { opened: word }
+    }
+}
+
+/// A command after the opening.
+#[derive(Debug, Clone, Copy, PartialEq, Eq)]
+pub enum Command {
+    /// Shelve an item.
+    Shelve {
+        /// The item's size.
+        size: u32,
+    },
+    /// Ask how many bins are opened.
+    Count,
+}
+
+/// Pairs the commands of an accepted stream with their answers, in order.
+///
+/// A word does not tell a bin's number from a count; the command does. On a
+/// stream that was refused, or with words that the library did not write, the
+/// answers end at the first one that makes no sense.
+///
+/// ```
+/// use shelf::{Answer, Command, StreamBuilder};
+///
+/// let mut stream = StreamBuilder::open(60, 4, 6);
+/// stream.shelve(35).count();
+/// let mut words = stream.answer_row();
+/// shelf::shelve(stream.bytes(), &mut words).expect("a well-formed stream");
+///
+/// let mut answers = shelf::answers(stream.bytes(), &words);
+/// let placed = (Command::Shelve { size: 35 }, Answer::Placed { bin: 1 });
+/// assert_eq!(answers.next(), Some(placed));
+/// assert_eq!(answers.next(), Some((Command::Count, Answer::Counted { opened: 1 })));
+/// assert_eq!(answers.next(), None);
+/// ```
+pub fn answers<'a>(stream: &'a [u8], words: &'a [u16]) -> Answers<'a> {
+    Answers {
+        rest: stream.get(OPENING_LEN..).unwrap_or(&[]),
+        words: words.iter(),
+    }
+}
+
+/// The iterator that [`answers`] returns.
+#[derive(Debug, Clone)]
+pub struct Answers<'a> {
+    rest: &'a [u8],
+    words: std::slice::Iter<'a, u16>,
+}
+
+impl Iterator for Answers<'_> {
+    type Item = (Command, Answer);
+
+    fn next(&mut self) -> Option<(Command, Answer)> {
+        let (command, rest) = match *self.rest {
+            [SHELVE, a, b, c, d, ref rest @ ..] => {
+                let size = u32::from_be_bytes([a, b, c, d]);
+                (Command::Shelve { size }, rest)
+            }
+            [COUNT, ref rest @ ..] => (Command::Count, rest),
+            _ => return None,
+        };
+        self.rest = rest;
+        let word = *self.words.next()?;
+        let answer = match command {
+            Command::Shelve { .. } => Answer::to_shelve(word)?,
+            Command::Count => Answer::to_count(word),
+        };
+        Some((command, answer))
+    }
+}

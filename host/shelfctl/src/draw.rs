@@ -1,0 +1,110 @@
+//! The shelf in the terminal, 80 columns wide.
+
+use std::fmt::{self, Write};
+
+use crate::packing::{Bin, Packing, SizeClass};
+
+const COLUMNS: usize = 80;
+/// Columns before the bar, and those of the bar within its frame.
+const LABEL: usize = 30;
+const BAR: usize = COLUMNS - LABEL - 2;
+
+pub struct Drawing<'a>(pub &'a Packing);
+
+impl fmt::Display for Drawing<'_> {
+    fn fmt(&self, f: &mut fmt::Formatter<'_>) -> fmt::Result {
+        let packing = self.0;
+        let (used, units) = packing.units();
+        let Packing {
+            capacity, stock, m, ..
+        } = packing;
+        writeln!(f, "capacity {capacity}, stock {stock}, m {m}")?;
+        let (items, bins) = (packing.items(), packing.bins.len());
+        writeln!(
+            f,
+            "{items} masters in {bins} cartridges, {used} of {units} units"
+        )?;
+        if packing.bins.is_empty() {
+            return Ok(());
+        }
+        let legend = SizeClass::ALL.map(|class| format!("{} {}", shade(class), class.name()));
+        writeln!(f, "\n   no class     load     free   {}", legend.join("  "))?;
+        for (number, bin) in (1..).zip(&packing.bins) {
+            let load = bin.load();
+            let free = packing.capacity - load;
+            let bar = bar(bin, packing.capacity);
+            writeln!(f, "{number:>5}{:>6}{load:>9}{free:>9} │{bar}│", bin.class)?;
+            write_items(f, bin)?;
+        }
+        Ok(())
+    }
+}
+
+fn shade(class: SizeClass) -> char {
+    match class {
+        SizeClass::A => '█',
+        SizeClass::B1 => '▓',
+        SizeClass::B2 => '▒',
+        SizeClass::X => '░',
+    }
+}
+
+/// The items from left to right, each as long as its share of the capacity.
+fn bar(bin: &Bin, capacity: u32) -> String {
+    let cells = |units: u64| (units * BAR as u64 / u64::from(capacity)) as usize;
+    let mut bar = String::new();
+    let mut end = 0;
+    let mut drawn = 0;
+    for item in &bin.items {
+        end += u64::from(item.size);
+        for cell in drawn..cells(end) {
+            // A line parts an item from the one before, where there is room.
+            let parts = cell == drawn && drawn > 0 && cells(end) - drawn > 1;
+            bar.push(if parts { '│' } else { shade(item.class) });
+        }
+        drawn = cells(end);
+    }
+    bar.extend(std::iter::repeat_n(' ', BAR - drawn));
+    bar
+}
+
+/// The sizes under the bar, runs of one size as `SIZExTIMES`.
+fn write_items(f: &mut fmt::Formatter<'_>, bin: &Bin) -> fmt::Result {
+    let mut line = String::new();
+    for run in bin.items.chunk_by(|a, b| a.size == b.size) {
+        let mut word = run[0].size.to_string();
+        if run.len() > 1 {
+            write!(word, "x{}", run.len())?;
+        }
+        if LABEL + 1 + line.len() + 1 + word.len() > COLUMNS {
+            writeln!(f, "{:LABEL$} {line}", "")?;
+            line.clear();
+        }
+        if !line.is_empty() {
+            line.push(' ');
+        }
+        line.push_str(&word);
+    }
+    writeln!(f, "{:LABEL$} {line}", "")
+}
+
+#[cfg(test)]
+mod tests {
+    use super::*;
+
+    /// The widest shelf: the most bins, the largest numbers, many sizes.
+    #[test]
+    fn a_drawing_fits_80_columns() {
+        let mut stream = shelf::StreamBuilder::open(16_777_216, 512, 6);
+        for i in 0..4_096 {
+            stream.shelve([9_000_000, 7_000_000, 6_000_000, 40_000 + i][i as usize % 4]);
+        }
+        let mut words = stream.answer_row();
+        shelf::shelve(stream.bytes(), &mut words).unwrap();
+        let packing = Packing::of(stream.bytes(), &words);
+        assert_eq!(packing.bins.len(), 512);
+        for line in Drawing(&packing).to_string().lines() {
+            assert!(line.chars().count() <= COLUMNS, "{line}");
+        }
+    }
+}

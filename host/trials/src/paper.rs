@@ -1,0 +1,222 @@
+//! The specification in plain Rust, written from the paper alone and sharing
+//! nothing with the library or its wrapper: bins are lists of items, a search
+//! is a scan, a load is a sum.
+
+/// A refused stream or plan: the number, and the offset or place.
+#[derive(Debug, Clone, Copy, PartialEq, Eq)]
+pub struct Refusal {
+    pub number: u32,
+    pub at: usize,
+}
+
+/// What an accepted stream returns.
+#[derive(Debug, Clone, Copy, PartialEq, Eq)]
+pub struct Totals {
+    pub items: usize,
+    pub opened: usize,
+}
+
+fn refuse<T>(number: u32, at: usize) -> Result<T, Refusal> {
+    Err(Refusal { number, at })
+}
+
+#[derive(Debug, Clone, Copy, PartialEq, Eq)]
+pub enum SizeClass {
+    A,
+    B1,
+    B2,
+    X,
+}
+
+pub fn size_class(size: u64, capacity: u64) -> SizeClass {
+    if 2 * size > capacity {
+        SizeClass::A
+    } else if 5 * size > 2 * capacity {
+        SizeClass::B1
+    } else if 3 * size > capacity {
+        SizeClass::B2
+    } else {
+        SizeClass::X
+    }
+}
+
+struct Bin {
+    class: u32,
+    items: Vec<u64>,
+}
+
+struct Opening {
+    capacity: u64,
+    stock: usize,
+    m: usize,
+}
+
+struct Packing {
+    opening: Opening,
+    bins: Vec<Bin>,
+    b2_accepted: usize,
+    accepted: usize,
+}
+
+impl Packing {
+    /// Places one item: the number of its bin, or the refusal's number.
+    fn place(&mut self, size: u64) -> Result<usize, u16> {
+        let capacity = self.opening.capacity;
+        if size == 0 {
+            return Err(8);
+        }
+        if size > capacity {
+            return Err(9);
+        }
+        let is_b2 = size_class(size, capacity) == SizeClass::B2;
+        let beside_an_a = is_b2 && (self.b2_accepted + 1).is_multiple_of(self.opening.m);
+        let class = match size_class(size, capacity) {
+            SizeClass::A => 1,
+            SizeClass::B1 => 2,
+            SizeClass::B2 if beside_an_a => 1,
+            SizeClass::B2 => 3,
+            SizeClass::X => 4,
+        };
+        let permitted = |bin: &Bin| {
+            let load: u64 = bin.items.iter().sum();
+            let holds_an_a = || {
+                let mut classes = bin.items.iter().map(|&item| size_class(item, capacity));
+                classes.any(|class| class == SizeClass::A)
+            };
+            bin.class == class && load + size <= capacity && (!beside_an_a || holds_an_a())
+        };
+        let place = match self.bins.iter().position(permitted) {
+            Some(place) => place,
+            None if self.bins.len() == self.opening.stock => return Err(10),
+            None => {
+                let items = Vec::new();
+                self.bins.push(Bin { class, items });
+                self.bins.len() - 1
+            }
+        };
+        self.bins[place].items.push(size);
+        self.accepted += 1;
+        if is_b2 {
+            self.b2_accepted += 1;
+        }
+        Ok(place + 1)
+    }
+}
+
+enum Command {
+    Shelve(u64),
+    Count,
+}
+
+/// An unsigned operand, most significant byte first.
+fn number(bytes: &[u8]) -> u64 {
+    bytes.iter().fold(0, |n, &byte| n * 256 + u64::from(byte))
+}
+
+/// Reads the opening and every command, or finds the first faulty command.
+fn read(stream: &[u8]) -> Result<(Opening, Vec<Command>), Refusal> {
+    if stream.first() != Some(&0x01) {
+        return refuse(1, 0);
+    }
+    if stream.len() < 8 {
+        return refuse(3, 0);
+    }
+    let opening = Opening {
+        capacity: number(&stream[1..5]),
+        stock: number(&stream[5..7]) as usize,
+        m: number(&stream[7..8]) as usize,
+    };
+    if !(1..=16_777_216).contains(&opening.capacity)
+        || !(1..=512).contains(&opening.stock)
+        || !(6..=9).contains(&opening.m)
+    {
+        return refuse(5, 0);
+    }
+
+    let mut commands = Vec::new();
+    let mut offset = 8;
+    while offset < stream.len() {
+        if commands.len() == 4096 {
+            return refuse(6, offset);
+        }
+        let operands = &stream[offset + 1..];
+        match stream[offset] {
+            0x01 => return refuse(4, offset),
+            0x02 if operands.len() < 4 => return refuse(3, offset),
+            0x02 => {
+                commands.push(Command::Shelve(number(&operands[..4])));
+                offset += 5;
+            }
+            0x03 => {
+                commands.push(Command::Count);
+                offset += 1;
+            }
+            _ => return refuse(2, offset),
+        }
+    }
+    Ok((opening, commands))
+}
+
+/// Shelves a stream, writing the answer words into the lent row.
+pub fn shelve(stream: &[u8], answers: &mut [u16]) -> Result<Totals, Refusal> {
+    let (opening, commands) = read(stream)?;
+    if answers.len() < commands.len() {
+        return refuse(7, stream.len());
+    }
+    let mut packing = Packing {
+        opening,
+        bins: Vec::new(),
+        b2_accepted: 0,
+        accepted: 0,
+    };
+    for (word, command) in answers.iter_mut().zip(commands) {
+        *word = match command {
+            Command::Count => packing.bins.len() as u16,
+            Command::Shelve(size) => match packing.place(size) {
+                Ok(bin) => bin as u16,
+                Err(number) => 32_768 + number,
+            },
+        };
+    }
+    Ok(Totals {
+        items: packing.accepted,
+        opened: packing.bins.len(),
+    })
+}
+
+/// Checks a plan of (size, bin) entries against the items.
+pub fn check_plan(
+    plan: &[(u32, u32)],
+    items: &[u32],
+    capacity: u32,
+    k: u32,
+) -> Result<(), Refusal> {
+    if capacity == 0 || capacity > 16_777_216 {
+        return refuse(11, 0);
+    }
+    if k > 4096 || plan.len() > 4096 || items.len() > 4096 {
+        return refuse(12, 0);
+    }
+    if plan.len() != items.len() {
+        return refuse(16, plan.len().min(items.len()) + 1);
+    }
+    let mut loads = vec![0; k as usize + 1];
+    for (i, (&(size, bin), &item)) in plan.iter().zip(items).enumerate() {
+        let place = i + 1;
+        if size != item {
+            return refuse(16, place);
+        }
+        if size == 0 || size > capacity {
+            return refuse(13, place);
+        }
+        if bin == 0 || bin > k {
+            return refuse(14, place);
+        }
+        let load: &mut u64 = &mut loads[bin as usize];
+        *load += u64::from(size);
+        if *load > u64::from(capacity) {
+            return refuse(15, place);
+        }
+    }
+    Ok(())
+}
