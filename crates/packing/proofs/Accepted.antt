@@ -9,7 +9,7 @@ use lib.Dec.{eqb, ltb}
 use lib.ListN.{length, drop}
 use Rattle.packing.specs.Prelude.{if_then_else_, Opening, Command, StreamReason, NoOpening, CutShort, OutsideLimits, TooFewWords}
 use Rattle.packing.specs.Limits.{openingGood, mostCommands}
-use Rattle.packing.specs.Streams.{openingWidth, openingOf, Front, whole, faulty, front, widths, lookup, Read, accepted, refused, follow, commands, read, lent, verdict}
+use Rattle.packing.specs.Streams.{openingWidth, openingOf, Front, whole, faulty, front, widths, lookup, Read, accepted, refused, follow, commands, read, lent}
 use Rattle.packing.specs.Claims.{Whole, AcceptedWhole}
 
 pub refused-accepted : {A : Type 0} {reason : StreamReason} {offset : ℕ} {o : Opening} {cs : List Command} → refused reason offset ≡ accepted o cs → A

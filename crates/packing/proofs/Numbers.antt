@@ -9,7 +9,7 @@ use lib.Dec.{ltb, leb}
 use lib.ListN.{length}
 use Rattle.packing.specs.Prelude.{if_then_else_, total, greatest, Opening, Command, Shelve, Count, Outcome, Placed, Counted, Refused, Entry}
 use Rattle.packing.specs.Bins.{Bin, Packing, opened}
-use Rattle.packing.specs.Placing.{firstFit, target, classOf, takes, binFor, spent, outcome, placed, after}
+use Rattle.packing.specs.Placing.{firstFit, target, classOf, takes, binFor, spent, placed}
 use Rattle.packing.specs.Run.{item, placement, answerTo, next, outcomesFrom}
 use Rattle.packing.proofs.Tests.{each-cons}
 use Rattle.packing.proofs.Trace.{Trace, ends, places, placementsFrom}

@@ -3,7 +3,7 @@ use Prim.Native.Nat.{ℕ}
 use mathlib.Core.Path.{_≡_, ap, _∙_}
 use mathlib.Core.List.{List, [], _∷_, List·Memᴰ·not-nil}
 use native.Mathlib.Omega.{arith}
-use lib.ListN.{length-map}
+use lib.ListN.{take, length-map}
 use Rattle.packing.specs.Prelude.{total, Opening, Command, Counted}
 use Rattle.packing.specs.Bins.{Packing, empty, opened}
 use Rattle.packing.specs.Placing.{after}
@@ -19,13 +19,17 @@ pub use Rattle.packing.proofs.SizeClasses.{class-bounds, bounds-class}
 pub use Rattle.packing.proofs.Stock.{spent-exactly}
 pub use Rattle.packing.proofs.Accepted.{accepted-whole}
 
+-- The number of bins is the greatest number answered.
+pub opened-is : (o : Opening) (cs : List Command) → opened (packing o cs) ≡ numberOpened o cs
+opened-is o cs = omega (arith, trace-opened o (trace o cs))
+
 module _ (o : Opening) (cs : List Command) where
   pub never-overfull : NeverOverfull o cs
-  never-overfull = trace-sound o (trace o cs) (λ b m. absurd (List·Memᴰ·not-nil m))
+  never-overfull j = trace-sound o (trace o (take j cs)) (λ b m. absurd (List·Memᴰ·not-nil m))
 
   pub loads-add-up : LoadsAddUp o cs
   unfolding total
-  loads-add-up = omega (arith, trace-weight o (λ s. s) (trace o cs))
+  loads-add-up j = omega (arith, trace-weight o (λ s. s) (trace o (take j cs)))
 
   pub prefix : Prefix o cs
   prefix j = prefix-from o j 1 empty cs
@@ -33,24 +37,20 @@ module _ (o : Opening) (cs : List Command) where
   pub refused-left-out : RefusedLeftOut o cs
   refused-left-out = record { same-packing = resent-packing o (trace o cs); same-bins = resent-bins o (trace o cs) }
 
-  -- The number of bins is the greatest number answered.
-  pub opened-is : opened (packing o cs) ≡ numberOpened o cs
-  opened-is = omega (arith, trace-opened o (trace o cs))
-
   pub answers-in-range : AnswersInRange o cs
   answers-in-range =
       record {
         from-one = trace-from-one o (trace o cs);
         to-opened = at-most-greatest (λ e. e .bin) (placements o cs);
-        to-stock = omega (arith, opened-is, trace-in-stock o (trace o cs) (omega arith));
+        to-stock = omega (arith, opened-is o cs, trace-in-stock o (trace o cs) (omega arith));
       }
 
   pub counts : Counts o cs
   counts =
       record {
-        bins = opened-is;
-        answered = λ later. count-from o empty cs later ∙ ap (λ n. Counted n ∷ []) opened-is;
-        returned = rw (opened-is, length-map);
+        bins = opened-is o cs;
+        answered = λ j later e. count-from o j empty cs later e ∙ ap (λ n. Counted n ∷ []) (opened-is o (take j cs));
+        returned = rw (opened-is o cs, length-map);
       }
 
 pub refused-changes-nothing : (o : Opening) (p : Packing) (s : ℕ) → RefusedChangesNothing o p s

@@ -1,6 +1,6 @@
 -- What is promised of the model, as statements; ../proofs shows each of every opening and every list of commands. Demand 3 and the plan of a packing's
 -- own answers are stated in the crate worst_case.
-use Rattle.packing.specs.Prelude.{ℕ, _+_, _*_, _≤_, _<_, _≡_, _↔_, Bool, true, _||_, List, [], _∷_, _++_, map, length, take, drop, List·Memᴰ, total, _=?_}
+use Rattle.packing.specs.Prelude.{ℕ, _+_, _*_, _≤_, _<_, _≡_, _↔_, Bool, true, _||_, List, [], _∷_, map, length, take, drop, List·Memᴰ, total, _=?_}
 use Rattle.packing.specs.Prelude.{Opening, SizeClass, A, B1, B2, X, Command, Shelve, Count, Counted, Refused, StockSpent, Entry, StreamResult}
 use Rattle.packing.specs.Bins.{Item, Bin, Packing, opened, load, kind}
 use Rattle.packing.specs.Placing.{permitted, target, outcome}
@@ -30,13 +30,13 @@ pub record SoundBin (o : Opening) (b : Bin) : Type 0 where
   pub in-class : (i : Item) → List·Memᴰ i (b .items) → belongs (kind o i) (b .class) ≡ true
 
 module _ (o : Opening) (cs : List Command) where
-  -- In every packing reached, no load exceeds the capacity; every bin has its class and at least one item.
+  -- After each command no load exceeds the capacity; every bin has its class and at least one item.
   abbrev pub NeverOverfull : Type 0
-  NeverOverfull = (b : Bin) → List·Memᴰ b (packing o cs .bins) → SoundBin o b
+  NeverOverfull = (j : ℕ) (b : Bin) → List·Memᴰ b (packing o (take j cs) .bins) → SoundBin o b
 
   -- The loads always add up to the sizes of the accepted items.
   abbrev pub LoadsAddUp : Type 0
-  LoadsAddUp = total (map load (packing o cs .bins)) ≡ total (acceptedSizes o cs)
+  LoadsAddUp = (j : ℕ) → total (map load (packing o (take j cs) .bins)) ≡ total (acceptedSizes o (take j cs))
 
   -- The answers to the first j commands depend on the opening and those j alone.
   abbrev pub Prefix : Type 0
@@ -56,7 +56,7 @@ module _ (o : Opening) (cs : List Command) where
   -- A count answered equals the number opened there, and so does, after the last command, the total returned.
   pub record Counts : Type 0 where
     pub bins : opened (packing o cs) ≡ numberOpened o cs
-    pub answered : (later : List Command) → take 1 (drop (length cs) (outcomes o (cs ++ Count ∷ later))) ≡ Counted (numberOpened o cs) ∷ []
+    pub answered : (j : ℕ) (later : List Command) → drop j cs ≡ Count ∷ later → take 1 (drop j (outcomes o cs)) ≡ Counted (numberOpened o (take j cs)) ∷ []
     pub returned : result (accepted o cs) ≡ StreamResult.Accepted (length (acceptedSizes o cs)) (numberOpened o cs)
 
 -- What no stream refusal leaves of a stream and its row: an opening within its limits, a whole command at every place after it, and no more
