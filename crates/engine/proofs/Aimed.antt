@@ -15,7 +15,7 @@ use Rattle.packing.specs.Placing.{classOf, firstFit, put, targetOf, target, tak
 use Rattle.packing.specs.Run.{item}
 use Rattle.tournament.specs.declared.Shape.{Shape}
 use Rattle.engine.specs.declared.Counters.{Counters}
-use Rattle.engine.specs.Aims.{aim, home, treeFor, accepting}
+use Rattle.engine.specs.Aims.{aim, home, treeFor, phaseAfter}
 use Rattle.engine.specs.Store.{held, shownAt, shows, Represents}
 use Rattle.engine.specs.Shown.{belongs, Shown}
 use Rattle.engine.proofs.Tests.{either}
@@ -23,16 +23,15 @@ use Rattle.engine.proofs.Fit.{chosen, put-here, put-other}
 use Rattle.engine.proofs.Aiming.{aims, phases, tree-below, home-positive, home-below}
 use Rattle.engine.proofs.Shows.{agree, shows-after, hidden-after}
 
--- What the code has found out of an item before it searches: its class k, the tree n, the counters q once it is accepted.
-pub record Aimed (o : Opening) (c : Counters) (size : ℕ) (k : SizeClass) (n : ℕ) (q : Counters) : Type 0 where
+-- What the code has found out of an item before it searches: its class k, the tree n.
+pub record Aimed (o : Opening) (c : Counters) (size : ℕ) (k : SizeClass) (n : ℕ) : Type 0 where
   pub some : 1 ≤ size
   pub fits : size ≤ o .capacity
   pub phase : c .phase < o .m
   pub class : k ≡ sizeClass (o .capacity) size
   pub tree : n ≡ treeFor k (c .phase) (o .m)
-  pub counted : q ≡ accepting k (o .m) c
 
-module _ {o : Opening} {c : Counters} {size : ℕ} {k : SizeClass} {n : ℕ} {q : Counters} (a : Aimed o c size k n q) where
+module _ {o : Opening} {c : Counters} {size : ℕ} {k : SizeClass} {n : ℕ} (a : Aimed o c size k n) where
   pub tree-few : n < 5
   tree-few = rw (a .tree) (tree-below (c .phase) (o .m) k)
 
@@ -48,10 +47,10 @@ module _ {o : Opening} {c : Counters} {size : ℕ} {k : SizeClass} {n : ℕ} {q 
     pub fit : (b : Bin) → takes o p (item size) b ≡ leb size (shows o n b)
     fit = agree o p (item size) n (a .some) aimed
 
-    pub phase-after : q .phase ≡ placed o p (item size) .b2s % o .m
+    pub phase-after : phaseAfter n (c .phase) ≡ placed o p (item size) .b2s % o .m
     unfolding placed
     phase-after =
-        ap (λ (x : Counters). x .phase) (a .counted) ∙ phases (p .b2s) (c .phase) (o .m) k (r .b2s) (a .phase)
+        ap (λ (x : ℕ). phaseAfter x (c .phase)) (a .tree) ∙ phases (p .b2s) (c .phase) (o .m) k (r .b2s) (a .phase)
         ∙ ap (λ (x : SizeClass). (p .b2s + countB2 x) % o .m) (a .class)
 
 -- In the model: the bin that would be opened, the place of the first bin that takes the item, the bin that the item joins, and what a place shows.

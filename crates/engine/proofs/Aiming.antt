@@ -36,7 +36,7 @@ aims o before phase B2 e l = elim (ℕ-discrete (phase + 1) (o .m)) [
   | no h ↦ rw (not-mth before phase (o .m) e (omega (arith, h)), ne-eqb (phase + 1) (o .m) h, ne-eqb (phase + 1) 0 (λ q. omega arith))
 ]
 
-pub phases : (before phase m : ℕ) (k : SizeClass) → phase ≡ before % m → phase < m → phaseAfter k phase m ≡ (before + countB2 k) % m
+pub phases : (before phase m : ℕ) (k : SizeClass) → phase ≡ before % m → phase < m → phaseAfter (treeFor k phase m) phase ≡ (before + countB2 k) % m
 phases before phase m A e l = rw add-zero e
 phases before phase m B1 e l = rw add-zero e
 phases before phase m X e l = rw add-zero e
@@ -45,7 +45,7 @@ phases before phase m B2 e l = elim (ℕ-discrete (phase + 1) m) [
   | no h ↦ rw (ne-eqb (phase + 1) m h) (sym (ap (λ (x : ℕ). x % m) (add-one before) ∙ not-mth before phase m e (omega (arith, h))))
 ]
 
-pub phase-below : (phase m : ℕ) (k : SizeClass) → phase < m → phaseAfter k phase m < m
+pub phase-below : (phase m : ℕ) (k : SizeClass) → phase < m → phaseAfter (treeFor k phase m) phase < m
 phase-below phase m A l = l
 phase-below phase m B1 l = l
 phase-below phase m X l = l

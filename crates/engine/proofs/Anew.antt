@@ -19,7 +19,7 @@ use Rattle.packing.specs.Run.{item}
 use Rattle.packing.proofs.Putting.{put-length}
 use Rattle.tournament.specs.declared.Shape.{Shape}
 use Rattle.engine.specs.declared.Counters.{Counters}
-use Rattle.engine.specs.Aims.{home}
+use Rattle.engine.specs.Aims.{home, accepting}
 use Rattle.engine.specs.Store.{held, shownAt, shows, Represents}
 use Rattle.engine.specs.Shown.{Shown}
 use Rattle.engine.specs.Done.{Modelled}
@@ -28,7 +28,7 @@ use Rattle.engine.proofs.Aiming.{home-class}
 use Rattle.engine.proofs.Shows.{beside-new}
 use Rattle.engine.proofs.Aimed.{Aimed, tree-few, aimed, fit, phase-after, new, at, join, showed, Fresh, shown-next}
 
-module _ {o : Opening} {c : Counters} {size : ℕ} {k : SizeClass} {n : ℕ} {q : Counters} (a : Aimed o c size k n q)
+module _ {o : Opening} {c : Counters} {size : ℕ} {k : SizeClass} {n : ℕ} (a : Aimed o c size k n)
     {shape : Shape} {t : List ℕ} {p : Packing} (r : Represents o shape (held t c) p)
     (none : (j : ℕ) → j < shape .places → shownAt t (shape .places) n j < size) (room : c .opened ≤ shape .places) where
   none-at : at o p size ≡ length (p .bins)
@@ -82,12 +82,9 @@ module _ {o : Opening} {c : Counters} {size : ℕ} {k : SizeClass} {n : ℕ} {q 
     hidden = λ m e. ap (showed o p size m) (r .bins) ∙ outside (shows o m) (p .bins);
   }
 
-  abbrev pub counting : Counters
-  counting = record { opened = c .opened + 1; phase = q .phase; items = q .items }
-
   module _ {u : List ℕ} (l : c .opened < o .stock) (within : c .opened < shape .places)
       (s : Shown shape t (home n) (eqb n 1) (c .opened) (o .capacity - size) u) where
-    new-represents : Represents o shape (held u counting) (placed o p (item size))
+    new-represents : Represents o shape (held u (accepting n (c .opened + 1) c)) (placed o p (item size))
     unfolding placed
     new-represents = record {
       bins = omega (arith, r .bins, none-at, put-length (takes o p (item size)) (new o p size) (item size) (p .bins));
@@ -95,7 +92,7 @@ module _ {o : Opening} {c : Counters} {size : ℕ} {k : SizeClass} {n : ℕ} {q 
       shown = shown-next r fresh s within;
     }
 
-    pub new-modelled : Modelled o shape (Shelve size) (Placed (c .opened + 1)) (held u counting) p
+    pub new-modelled : Modelled o shape (Shelve size) (Placed (c .opened + 1)) (held u (accepting n (c .opened + 1) c)) p
     new-modelled = record {
       answered = sym (new-outcome l);
       represents = rw (new-outcome l) new-represents;

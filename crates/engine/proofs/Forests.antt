@@ -15,6 +15,10 @@ use Rattle.tournament.proofs.Leaves.{leaf-node, leaves-length}
 use Rattle.engine.specs.Store.{shownAt, Forest}
 use Rattle.engine.specs.Shown.{Shown}
 
+-- Every place of a tree is a leaf of it.
+pub leaf-count : (shape : Shape) (t : List ℕ) → Forest shape t → (n : ℕ) → n < 5 → length (leaves t (1024 * n) (shape .places)) ≡ shape .places
+leaf-count shape t f n l = leaves-length t (1024 * n) (shape .places) (omega (arith, f .tree n l .words, f .tree n l .room))
+
 -- Stored in tree h at place i.
 module _ (shape : Shape) (t : List ℕ) (h i free : ℕ) (u : List ℕ) (few : h < 5) (f : Forest shape t) (inside : i < shape .places)
     (s : Stored (1024 * h) shape t i free u) where
@@ -40,11 +44,8 @@ module _ (shape : Shape) (t : List ℕ) (h i free : ℕ) (u : List ℕ) (few : h
     ];
   }
 
-  count : length (leaves t (1024 * h) (shape .places)) ≡ shape .places
-  count = leaves-length t (1024 * h) (shape .places) (omega (arith, f .tree h few .words, f .tree h few .room))
-
   pub same : shownAt u (shape .places) h i ≡ free
-  same = ap (λ (vs : List ℕ). getD vs i 0) (s .leaf) ∙ getD-set-same (leaves t (1024 * h) (shape .places)) i free 0 (omega (arith, count))
+  same = ap (λ (vs : List ℕ). getD vs i 0) (s .leaf) ∙ getD-set-same (leaves t (1024 * h) (shape .places)) i free 0 (omega (arith, leaf-count shape t f h few))
 
   pub other-tree : (n j : ℕ) → j < shape .places → (n ≡ h → ⊥) → shownAt u (shape .places) n j ≡ shownAt t (shape .places) n j
   other-tree n j l z =

@@ -21,7 +21,7 @@ use Rattle.tournament.specs.declared.Shape.{Shape}
 use Rattle.tournament.specs.Trees.{leaves}
 use Rattle.tournament.proofs.Fits.{Lowest}
 use Rattle.engine.specs.declared.Counters.{Counters}
-use Rattle.engine.specs.Aims.{aim, home}
+use Rattle.engine.specs.Aims.{aim, home, accepting}
 use Rattle.engine.specs.Store.{held, shownAt, shows, Represents}
 use Rattle.engine.specs.Shown.{Shown}
 use Rattle.engine.specs.Done.{Modelled}
@@ -30,7 +30,7 @@ use Rattle.engine.proofs.Aiming.{home-positive}
 use Rattle.engine.proofs.Shows.{hidden-before, class-found, beside-found}
 use Rattle.engine.proofs.Aimed.{Aimed, tree-few, aimed, fit, phase-after, new, at, join, showed, Fresh, shown-next}
 
-module _ {o : Opening} {c : Counters} {size : ℕ} {k : SizeClass} {n : ℕ} {q : Counters} (a : Aimed o c size k n q)
+module _ {o : Opening} {c : Counters} {size : ℕ} {k : SizeClass} {n : ℕ} (a : Aimed o c size k n)
     {shape : Shape} {t : List ℕ} {p : Packing} (r : Represents o shape (held t c) p)
     {i : ℕ} (within : i < shape .places) (f : Lowest size (leaves t (1024 * n) (shape .places)) i) where
   enough : size ≤ showed o p size n i
@@ -91,17 +91,15 @@ module _ {o : Opening} {c : Counters} {size : ℕ} {k : SizeClass} {n : ℕ} {q 
   }
 
   module _ {u : List ℕ} (s : Shown shape t (home n) (leb n 1) i (shownAt t (shape .places) n i - size) u) where
-    found-represents : Represents o shape (held u q) (placed o p (item size))
+    found-represents : Represents o shape (held u (accepting n (c .opened) c)) (placed o p (item size))
     unfolding placed
     found-represents = record {
-      bins =
-          omega
-          (arith, ap (λ (x : Counters). x .opened) (a .counted), r .bins, some-takes, put-length (takes o p (item size)) (new o p size) (item size) (p .bins));
+      bins = omega (arith, r .bins, some-takes, put-length (takes o p (item size)) (new o p size) (item size) (p .bins));
       b2s = phase-after a r;
       shown = shown-next r fresh s within;
     }
 
-    pub found-modelled : Modelled o shape (Shelve size) (Placed (i + 1)) (held u q) p
+    pub found-modelled : Modelled o shape (Shelve size) (Placed (i + 1)) (held u (accepting n (c .opened) c)) p
     found-modelled = record {
       answered = sym found-outcome;
       represents = rw found-outcome found-represents;

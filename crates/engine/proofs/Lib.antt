@@ -8,4 +8,5 @@ pub mod Aimed
 pub mod Joining
 pub mod Anew
 pub mod Ways
+pub mod Spotted
 pub mod Empty

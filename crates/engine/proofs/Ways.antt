@@ -16,13 +16,13 @@ use Rattle.packing.specs.Run.{item}
 use Rattle.tournament.specs.declared.Shape.{Shape}
 use Rattle.tournament.specs.Trees.{leaves}
 use Rattle.tournament.proofs.Fits.{Lowest, Lacking}
-use Rattle.tournament.proofs.Leaves.{leaves-length}
 use Rattle.engine.specs.declared.Counters.{Counters}
-use Rattle.engine.specs.Aims.{home}
+use Rattle.engine.specs.Aims.{home, phaseAfter, accepting}
 use Rattle.engine.specs.Store.{Store, held, shownAt, Forest, Sound, Represents}
 use Rattle.engine.specs.Shown.{Shown}
 use Rattle.engine.specs.Done.{answerOf, Counting, Done}
 use Rattle.engine.proofs.Aiming.{phase-below}
+use Rattle.engine.proofs.Forests.{leaf-count}
 use Rattle.engine.proofs.Aimed.{Aimed, tree-few}
 use Rattle.engine.proofs.Joining.{found-modelled}
 use Rattle.engine.proofs.Anew.{spent-outcome, new-modelled}
@@ -54,43 +54,33 @@ module _ (o : Opening) (shape : Shape) (s : Store) (number size : ℕ) (sound : 
   unfolding outcome
   done-large z l = done-refused AboveCapacity (λ p r. rw (ne-eqb size 0 z, lt-ltb (o .capacity) size l))
 
--- Every place of the tree that is searched is a leaf of it.
-pub places : {o : Opening} {c : Counters} {size : ℕ} {k : SizeClass} {n : ℕ} {q : Counters} → Aimed o c size k n q
-    → {shape : Shape} {t : List ℕ} → Sound o shape (held t c) → length (leaves t (1024 * n) (shape .places)) ≡ shape .places
-places a sound =
-    let tree = sound .forest .tree _ (tree-few a) in
-    leaves-length _ _ _ (omega (arith, tree .words, tree .room))
-
 -- Searched for in tree n.
-module _ {o : Opening} {c : Counters} {size : ℕ} {k : SizeClass} {n : ℕ} {q : Counters} (a : Aimed o c size k n q)
+module _ {o : Opening} {c : Counters} {size : ℕ} {k : SizeClass} {n : ℕ} (a : Aimed o c size k n)
     {shape : Shape} {t : List ℕ} (sound : Sound o shape (held t c)) (number : ℕ) where
-  phase-still : q .phase < o .m
-  phase-still = rw (a .counted) (phase-below (c .phase) (o .m) k (a .phase))
+  places : length (leaves t (1024 * n) (shape .places)) ≡ shape .places
+  places = leaf-count shape t (sound .forest) n (tree-few a)
 
-  sound-after : {u : List ℕ} (next : Counters) → next .opened ≤ o .stock → next .phase ≡ q .phase → Forest shape u → Sound o shape (held u next)
-  sound-after next l e f = record { forest = f; stock = sound .stock; within = l; phase = omega (arith, phase-still) }
+  phase-still : phaseAfter n (c .phase) < o .m
+  phase-still = rw (a .tree) (phase-below (c .phase) (o .m) k (a .phase))
 
-  opened-still : q .opened ≡ c .opened
-  opened-still = ap (λ (x : Counters). x .opened) (a .counted)
-
-  one-more : q .items ≡ c .items + 1
-  one-more = ap (λ (x : Counters). x .items) (a .counted)
+  sound-after : {u : List ℕ} (opened : ℕ) → opened ≤ o .stock → Forest shape u → Sound o shape (held u (accepting n opened c))
+  sound-after opened l f = record { forest = f; stock = sound .stock; within = l; phase = phase-still }
 
   pub done-found : {i : ℕ} {u : List ℕ} → Lowest size (leaves t (1024 * n) (shape .places)) i
       → Shown shape t (home n) (leb n 1) i (shownAt t (shape .places) n i - size) u
-      → Done o shape (held t c) number (Shelve size) (answerOf number (Placed (i + 1))) (held u q)
+      → Done o shape (held t c) number (Shelve size) (answerOf number (Placed (i + 1))) (held u (accepting n (c .opened) c))
   done-found f d = record {
-    sound = sound-after q (omega (arith, opened-still, sound .within)) refl (d .forest);
+    sound = sound-after (c .opened) (sound .within) (d .forest);
     numbered = refl;
-    model = λ p r. found-modelled a r (omega (arith, f .inside, places a sound)) f d;
-    items = one-more;
+    model = λ p r. found-modelled a r (omega (arith, f .inside, places)) f d;
+    items = refl;
     refused = λ reason e. absurd (placed-not-refused e);
   }
 
   -- Nothing found.
   module _ (f : Lacking size (leaves t (1024 * n) (shape .places))) where
     lacking : (j : ℕ) → j < shape .places → shownAt t (shape .places) n j < size
-    lacking j l = f j (omega (arith, places a sound))
+    lacking j l = f j (omega (arith, places))
 
     room : c .opened ≤ shape .places
     room = omega (arith, sound .within, sound .stock)
@@ -100,12 +90,12 @@ module _ {o : Opening} {c : Counters} {size : ℕ} {k : SizeClass} {n : ℕ} {q 
 
     pub done-new : {u : List ℕ} → c .opened < o .stock → Shown shape t (home n) (eqb n 1) (c .opened) (o .capacity - size) u
         → Done o shape (held t c) number (Shelve size) (answerOf number (Placed (c .opened + 1)))
-        (held u (record { opened = c .opened + 1; phase = q .phase; items = q .items }))
+        (held u (accepting n (c .opened + 1) c))
     done-new l d = record {
-      sound = sound-after (record { opened = c .opened + 1; phase = q .phase; items = q .items }) (omega arith) refl (d .forest);
+      sound = sound-after (c .opened + 1) (omega arith) (d .forest);
       numbered = refl;
       model = λ p r. new-modelled a r lacking room l (omega (arith, sound .stock)) d;
-      items = one-more;
+      items = refl;
       refused = λ reason e. absurd (placed-not-refused e);
     }
 

@@ -23,12 +23,10 @@ treeFor B1 phase m = 2
 treeFor B2 phase m = if phase + 1 =? m then 0 else 3
 treeFor X phase m = 4
 
-abbrev pub phaseAfter : SizeClass → (phase m : ℕ) → ℕ
-phaseAfter A phase m = phase
-phaseAfter B1 phase m = phase
-phaseAfter B2 phase m = if phase + 1 =? m then 0 else phase + 1
-phaseAfter X phase m = phase
+-- The phase once an item is accepted: only B2 items are searched for in the trees 0 and 3, and they count.
+abbrev pub phaseAfter : (tree phase : ℕ) → ℕ
+phaseAfter tree phase = if tree =? 0 then 0 else (if tree =? 3 then phase + 1 else phase)
 
--- the counters once an item is accepted into an opened bin
-abbrev pub accepting : SizeClass → (m : ℕ) → Counters → Counters
-accepting k m c = record { opened = c .opened; phase = phaseAfter k (c .phase) m; items = c .items + 1 }
+-- the counters once an item is accepted that was searched for in this tree, with so many bins opened
+abbrev pub accepting : (tree opened : ℕ) → Counters → Counters
+accepting tree opened c = record { opened = opened; phase = phaseAfter tree (c .phase); items = c .items + 1 }

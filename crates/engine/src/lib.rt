@@ -9,18 +9,20 @@ use packing::SizeClass;
 use tournament::Found;
 use tournament::Shape;
 ghost use mathlib.Core.Path.{_≡_};
-ghost use Prim.Native.Nat.{_<_};
+ghost use Prim.Native.Nat.{_≤_, _<_};
 ghost use Rattle.packing.specs.declared.Command.the-variants.{Shelve};
 ghost use Rattle.packing.specs.declared.Outcome.the-variants.{Refused};
 ghost use Rattle.engine.specs.Aims.{home, treeFor, phaseAfter, accepting};
 ghost use Rattle.engine.specs.Store.{Forest, held, Ready};
+ghost use Rattle.engine.specs.Spots.{spotFor};
 ghost use Rattle.engine.specs.Shown.{Shown};
 ghost use Rattle.engine.specs.Done.{stepOf, Counting, Done};
 
-// The bins opened, the B2 items accepted since the last m-th, and the items accepted.
+// The bins opened, the B2 items accepted since the last m-th, and the items accepted. (Of one width, so that nothing lies between them: the
+// compiler then keeps each in a register.)
 pub struct Counters {
     pub opened: u16,
-    pub phase: u8,
+    pub phase: u16,
     pub items: u16,
 }
 
@@ -30,40 +32,53 @@ pub struct Step {
     pub next: Counters,
 }
 
+// Where an item goes: the place of its bin, the space left free there, whether the bin then is of class 1 and holds an A, and the bins opened
+// then.
+struct Spot {
+    place: usize,
+    free: u32,
+    beside: bool,
+    opened: u16,
+}
+
+// What there is for an item: a spot, or the stock is spent.
+enum Room {
+    Here(Spot),
+    Spent,
+}
+
 // The tree that is searched for an item: every m-th B2 goes beside an A.
-fn tree_for(class: SizeClass, phase: u8, m: u8) -> usize
+fn tree_for(class: SizeClass, phase: u16, m: u8) -> usize
     requires { ⌜ phase < m ⌝ }
     ensures { λ r. ⌜ r ≡ treeFor class phase m ⌝ }
 {
     match class {
         SizeClass::A => 1,
         SizeClass::B1 => 2,
-        SizeClass::B2 => if phase + 1 == m { 0 } else { 3 },
+        SizeClass::B2 => if phase + 1 == m as u16 { 0 } else { 3 },
         SizeClass::X => 4,
     }
 }
 
-// The phase once an item is accepted: a B2 counts, in whichever class it lies.
-fn phase_after(class: SizeClass, phase: u8, m: u8) -> u8
-    requires { ⌜ phase < m ⌝ }
-    ensures { λ r. ⌜ r ≡ phaseAfter class phase m ⌝ }
+// The phase once an item is accepted that was searched for in this tree: a B2 counts, in whichever class it lies.
+fn phase_after(tree: usize, phase: u16) -> u16
+    requires { ⌜ phase < 65535 ⌝ }
+    ensures { λ r. ⌜ r ≡ phaseAfter tree phase ⌝ }
 {
-    match class {
-        SizeClass::A => phase,
-        SizeClass::B1 => phase,
-        SizeClass::B2 => if phase + 1 == m { 0 } else { phase + 1 },
-        SizeClass::X => phase,
+    match tree {
+        0 => 0,
+        3 => phase + 1,
+        _ => phase,
     }
 }
 
-// The counters once an item is accepted into an opened bin.
-fn accept(counters: Counters, class: SizeClass, m: u8) -> Counters
-    requires phase { ⌜ counters .phase < m ⌝ }
+// The counters once an item is accepted, with so many bins opened then.
+fn accept(counters: Counters, tree: usize, opened: u16) -> Counters
+    requires phase { ⌜ counters .phase < 65535 ⌝ }
     requires room { ⌜ counters .items < 65535 ⌝ }
-    ensures { λ r. ⌜ r ≡ accepting class m counters ⌝ }
+    ensures { λ r. ⌜ r ≡ accepting tree opened counters ⌝ }
 {
-    let opened = counters.opened;
-    let phase = phase_after(class, counters.phase, m);
+    let phase = phase_after(tree, counters.phase);
     let items = counters.items + 1;
     Counters {
         opened,
@@ -93,23 +108,69 @@ fn show(trees: &mut [u32; 5120], shape: Shape, class: usize, beside: bool, place
     }
 }
 
-// "An answer joins the command's number with placed, counted or refused."
-fn step_of(number: usize, outcome: Outcome, next: Counters) -> Step
-    ensures { λ r. ⌜ r ≡ stepOf number outcome next ⌝ }
+// Where an item goes that is searched for in this tree: the lowest place with space for it, else a new bin. Tree 1 is searched for an A only,
+// and tree 0 shows only bins that hold one: so a bin found in either holds an A once the item has joined it. A new bin holds an A only if the
+// item is one, searched for in tree 1.
+fn find_spot(
+    trees: &[u32; 5120],
+    shape: Shape,
+    opened: u16,
+    opening: Opening,
+    tree: usize,
+    size: u32,
+) -> Room
+    requires forest { ⌜ Forest shape (now trees) ⌝ }
+    requires tree { ⌜ tree < 5 ⌝ }
+    requires some { ⌜ 1 ≤ size ⌝ }
+    requires fits { ⌜ size ≤ opening .capacity ⌝ }
+    ensures { λ r. ⌜ r ≡ spotFor opening shape (now (trees .entry)) opened tree size ⌝ }
 {
-    let answer = Answer { number, outcome };
-    Step { answer, next }
+    let capacity = opening.capacity;
+    let base = 1024 * tree;
+    let found = tournament::search(trees, base, shape, size);
+    match found {
+        Found::At(place) => {
+            let space = tournament::value(trees, base, shape, place);
+            let free = space - size;
+            let beside = tree <= 1;
+            Room::Here(Spot {
+                place,
+                free,
+                beside,
+                opened,
+            })
+        }
+        Found::Nothing => {
+            if opening.stock <= opened {
+                return Room::Spent;
+            }
+            let place = opened as usize;
+            let free = capacity - size;
+            let beside = tree == 1;
+            let opened = opened + 1;
+            Room::Here(Spot {
+                place,
+                free,
+                beside,
+                opened,
+            })
+        }
+    }
 }
 
-// A refused item leaves the counters as they were.
+// "An answer joins the command's number with placed, counted or refused." A refused item leaves the counters as they were.
 fn refuse(number: usize, reason: ItemReason, counters: Counters) -> Step
     ensures { λ r. ⌜ r ≡ stepOf number (Refused reason) counters ⌝ }
 {
-    step_of(number, Outcome::Refused(reason), counters)
+    let answer = Answer {
+        number,
+        outcome: Outcome::Refused(reason),
+    };
+    let next = counters;
+    Step { answer, next }
 }
 
-// "Where a master goes": Refined First-Fit, one item. Tree 1 is searched for an A only, and tree 0 shows only bins that hold one: so a bin
-// found in either holds an A once the item has joined it. A new bin holds an A only if the item is one, searched for in tree 1.
+// "Where a master goes": Refined First-Fit, one item.
 pub fn place(
     trees: &mut [u32; 5120],
     shape: Shape,
@@ -130,34 +191,21 @@ pub fn place(
     }
     let class = packing::classify(size, capacity);
     let tree = tree_for(class, counters.phase, opening.m);
+    let room = find_spot(trees, shape, counters.opened, opening, tree, size);
+    let Room::Here(spot) = room else {
+        return refuse(number, ItemReason::StockSpent, counters);
+    };
     let home = home_of(tree);
-    let next = accept(counters, class, opening.m);
-    let base = 1024 * tree;
-    let found = tournament::search(trees, base, shape, size);
-    match found {
-        Found::At(place) => {
-            let space = tournament::value(trees, base, shape, place);
-            let free = space - size;
-            show(trees, shape, home, tree <= 1, place, free);
-            let bin = (place + 1) as u16;
-            step_of(number, Outcome::Placed(bin), next)
-        }
-        Found::Nothing => {
-            let opened = counters.opened;
-            if opening.stock <= opened {
-                return refuse(number, ItemReason::StockSpent, counters);
-            }
-            let free = capacity - size;
-            show(trees, shape, home, tree == 1, opened as usize, free);
-            let bin = opened + 1;
-            let next = Counters {
-                opened: bin,
-                phase: next.phase,
-                items: next.items,
-            };
-            step_of(number, Outcome::Placed(bin), next)
-        }
-    }
+    let place = spot.place;
+    let next = accept(counters, tree, spot.opened);
+    let bin = (place + 1) as u16;
+    let answer = Answer {
+        number,
+        outcome: Outcome::Placed(bin),
+    };
+    // Last: how far a store climbs is not foreseen by the processor, and nothing but the next command is to wait for it.
+    show(trees, shape, home, spot.beside, place, spot.free);
+    Step { answer, next }
 }
 
 // How many bins are opened.

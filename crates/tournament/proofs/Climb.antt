@@ -7,7 +7,7 @@ use native.Mathlib.Omega.{arith}
 use lib.ListN.{length, getD, set, length-set}
 use lib.Seq.{getD-set-same, getD-set-other}
 use Rattle.tournament.specs.declared.Shape.{Shape}
-use Rattle.tournament.specs.Trees.{node, Right, Tree}
+use Rattle.tournament.specs.Trees.{node, sibling, Right, Tree}
 use Rattle.tournament.specs.Stored.{Stored}
 use Rattle.tournament.proofs.Leaves.{leaves-set, leaves-same}
 
@@ -40,10 +40,7 @@ right-here t b m v x l e =
       getD-set-other t (b + m) (b + (2 * m + 1)) v 0 (λ q. omega arith),
     ) e
 
--- The sibling of node n: the children of n / 2 are n and its sibling.
-abbrev sibling : ℕ → ℕ
-sibling n = n + 1 - 2 * (n % 2)
-
+-- The children of n / 2 are n and its sibling.
 family : (t : List ℕ) (b n v : ℕ) → node t b n ≡ v → max v (node t b (sibling n)) ≡ max (node t b (2 * (n / 2))) (node t b (2 * (n / 2) + 1))
 family t b n v e = elim (ℕ-discrete (n % 2) 0) [
   | yes z ↦ (let x : 2 * (n / 2) ≡ n = omega arith in
@@ -81,6 +78,11 @@ module _ (b : ℕ) (shape : Shape) (t : List ℕ) (place value : ℕ) (tree : Tr
   }
 
 module _ (b places : ℕ) (s t : List ℕ) (n v : ℕ) (c : Climb b places s t n v) (l : 1 < n) where
+  pub sibling-inside : b + sibling n < 5120
+  sibling-inside =
+      let child : sibling n ≤ 2 * (n / 2) + 1 = omega arith in
+      omega (arith, c .high, c .room)
+
   abbrev carried : ℕ
   carried = max v (node t b (sibling n))
 

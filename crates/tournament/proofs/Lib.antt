@@ -3,4 +3,5 @@ pub mod Powers
 pub mod Fits
 pub mod Leaves
 pub mod Halves
+pub mod Siblings
 pub mod Climb

@@ -1,7 +1,7 @@
 -- Tournament trees in one row of words, each at a base of its own: "each node holds the largest free space below it".
 use mathlib.Core.Path.{_≡_}
 use mathlib.Core.List.{List}
-use Prim.Native.Nat.{ℕ, _+_, _*_, _^_, _≤_, _<_, max}
+use Prim.Native.Nat.{ℕ, _+_, _-_, _*_, _%_, _^_, _≤_, _<_, max}
 use lib.ListN.{length, getD, take, drop}
 use Rattle.tournament.specs.declared.Shape.{Shape}
 
@@ -12,6 +12,10 @@ node t b n = getD t (b + n) 0
 -- The leaves as a plain list, one a place: they are the nodes from the number of places up.
 abbrev pub leaves : (t : List ℕ) (b places : ℕ) → List ℕ
 leaves t b places = take places (drop (b + places) t)
+
+-- The other child of the parent of node n.
+abbrev pub sibling : ℕ → ℕ
+sibling n = n + 1 - 2 * (n % 2)
 
 -- Node n holds the larger of its two children.
 abbrev pub Right : (t : List ℕ) (b n : ℕ) → Type 0

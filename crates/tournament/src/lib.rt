@@ -6,7 +6,7 @@ ghost use Prim.Native.Nat.{_≤_, _<_, max};
 ghost use lib.Dec.{leb};
 ghost use lib.ListN.{getD};
 ghost use Rattle.tournament.specs.Shapes.{Fitted};
-ghost use Rattle.tournament.specs.Trees.{leaves, Tree};
+ghost use Rattle.tournament.specs.Trees.{leaves, sibling, Tree};
 ghost use Rattle.tournament.specs.FirstFit.{firstFit};
 ghost use Rattle.tournament.specs.Descent.{Descent, First};
 ghost use Rattle.tournament.specs.Stored.{Stored};
@@ -41,6 +41,13 @@ fn larger(a: u32, b: u32) -> u32
     ensures { λ r. ⌜ r ≡ max a b ⌝ }
 {
     if a < b { b } else { a }
+}
+
+// The other child of the parent of node `n`: the two differ in the lowest digit.
+fn sibling_of(n: usize) -> usize
+    ensures { λ r. ⌜ r ≡ sibling n ⌝ }
+{
+    n ^ 1
 }
 
 // The near node where its largest value is enough, else the far one.
@@ -102,7 +109,7 @@ pub fn store(t: &mut [u32; 5120], base: usize, shape: Shape, place: usize, value
     let mut largest = value;
     t[base + n] = largest;
     while 1 < n {
-        let sibling = n + 1 - 2 * (n % 2);
+        let sibling = sibling_of(n);
         largest = larger(largest, t[base + sibling]);
         n = n / 2;
         if t[base + n] == largest {

@@ -1,6 +1,6 @@
 -- `store` meets its contract. The invariant: every node is right but the parent of n. The measure is n. Assumes nothing.
 use native.Mathlib.Omega.{arith}
-use Rattle.tournament.proofs.Climb.{Climb, climb-start, climb-up, climb-stop, climb-end}
+use Rattle.tournament.proofs.Climb.{Climb, climb-start, sibling-inside, climb-up, climb-stop, climb-end}
 use Rattle.tournament.proofs.store.Statement.{statement}
 use Rattle.tournament.proofs.store.Tie as tie
 
@@ -25,14 +25,8 @@ element-write-t c = omega arith
 loop-holds : tie.Need-loop-holds Inv-loop μ-loop
 loop-holds c = climb-start _ _ _ _ _ (c .pre .0) (c .pre .1)
 
-add-sibling : tie.Need-add-sibling Inv-loop μ-loop
-add-sibling c = omega arith
-
-mul-sibling : tie.Need-mul-sibling Inv-loop μ-loop
-mul-sibling c = omega arith
-
-sub-sibling : tie.Need-sub-sibling Inv-loop μ-loop
-sub-sibling c = omega arith
+sibling-of-requires : tie.Need-sibling-of-requires Inv-loop μ-loop
+sibling-of-requires c κs = tt
 
 add-larger : tie.Need-add-larger Inv-loop μ-loop
 add-larger c = omega arith
@@ -41,7 +35,9 @@ mul-larger : tie.Need-mul-larger Inv-loop μ-loop
 mul-larger c = omega arith
 
 element-copy-out-larger : tie.Need-element-copy-out-larger Inv-loop μ-loop
-element-copy-out-larger c = omega arith
+element-copy-out-larger c =
+    let turn = c .before in
+    omega (arith, c .sibling-of .ensures, sibling-inside _ _ _ _ _ _ (turn .before .loop .inv) (omega (arith, turn .loop-test .taken)))
 
 larger-requires : tie.Need-larger-requires Inv-loop μ-loop
 larger-requires c κs = tt
@@ -57,10 +53,12 @@ element-copy-out-if1 c = omega arith
 
 returns : tie.Need-returns Inv-loop μ-loop
 returns c =
-    let turn = c .before .before .before .before in
-    let at-loop = turn .before in
-    climb-end _ _ _ _ _ (at-loop .before .pre .0) (at-loop .before .pre .1) _ _ _
-    (climb-stop _ _ _ _ _ _ (at-loop .loop .inv) (omega (arith, turn .loop-test .taken)) (omega (arith, c .if1 .taken, c .before .before .larger .ensures)))
+    let look = c .before .before .before .before in
+    let turn = look .before in
+    let start = turn .before .before in
+    climb-end _ _ _ _ _ (start .pre .0) (start .pre .1) _ _ _
+    (climb-stop _ _ _ _ _ _ (turn .before .loop .inv) (omega (arith, turn .loop-test .taken))
+    (omega (arith, c .if1 .taken, rw (look .sibling-of .ensures) at (c .before .before .larger .ensures))))
     (omega arith)
 
 add-t-2 : tie.Need-add-t-2 Inv-loop μ-loop
@@ -77,8 +75,10 @@ loop-less c = omega arith
 
 loop-again : tie.Need-loop-again Inv-loop μ-loop
 loop-again c =
-    let turn = c .before .before .before .before in
-    rw (c .before .before .larger .ensures) (climb-up _ _ _ _ _ _ (turn .before .loop .inv) (omega (arith, turn .loop-test .taken)))
+    let look = c .before .before .before .before in
+    let turn = look .before in
+    rw (c .before .before .larger .ensures, look .sibling-of .ensures)
+    (climb-up _ _ _ _ _ _ (turn .before .loop .inv) (omega (arith, turn .loop-test .taken)))
 
 returns-2 : tie.Need-returns-2 Inv-loop μ-loop
 returns-2 c =
@@ -96,9 +96,7 @@ store-spec =
     mul-t
     element-write-t
     loop-holds
-    add-sibling
-    mul-sibling
-    sub-sibling
+    sibling-of-requires
     add-larger
     mul-larger
     element-copy-out-larger

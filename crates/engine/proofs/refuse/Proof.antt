@@ -1,0 +1,10 @@
+-- `refuse` meets its contract. Assumes nothing.
+use mathlib.Core.Path.{refl}
+use Rattle.engine.proofs.refuse.Statement.{statement}
+use Rattle.engine.proofs.refuse.Tie as tie
+
+returns : tie.Need-returns
+returns c = refl
+
+pub refuse-spec : {M : Type 1} → statement M
+refuse-spec = tie.close (tie.spec returns)

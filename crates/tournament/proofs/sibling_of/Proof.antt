@@ -1,0 +1,10 @@
+-- `sibling_of` meets its contract. Assumes nothing.
+use Rattle.tournament.proofs.Siblings.{turned}
+use Rattle.tournament.proofs.sibling_of.Statement.{statement}
+use Rattle.tournament.proofs.sibling_of.Tie as tie
+
+returns : tie.Need-returns
+returns c = turned (c .args .n)
+
+pub sibling-of-spec : {M : Type 1} → statement M
+sibling-of-spec = tie.close (tie.spec returns)
