@@ -1,5 +1,5 @@
 -- The store: at most one node is wrong, the parent of the node that was set last. Assumes nothing.
-use mathlib.Core.Path.{_≡_, refl, sym, _∙_}
+use mathlib.Core.Path.{_≡_, refl, sym, subst, _∙_}
 use mathlib.Core.List.{List}
 use Prim.Native.Nat.{ℕ, _+_, _-_, _*_, _/_, _%_, _≤_, _<_, max}
 use native.Mathlib.Decide.{ℕ-discrete}
@@ -7,9 +7,9 @@ use native.Mathlib.Omega.{arith}
 use lib.ListN.{length, getD, set, length-set}
 use lib.Seq.{getD-set-same, getD-set-other}
 use Rattle.tournament.specs.declared.Shape.{Shape}
-use Rattle.tournament.specs.Trees.{node, sibling, Right, Tree}
+use Rattle.tournament.specs.Trees.{node, leaves, sibling, Right, Tree}
 use Rattle.tournament.specs.Stored.{Stored}
-use Rattle.tournament.proofs.Leaves.{leaves-set, leaves-same}
+use Rattle.tournament.proofs.Leaves.{leaf-node, leaves-set, leaves-same}
 
 -- s is the row once the leaf is set, t the row now; node n of t holds v, and every node is right but the parent of n.
 pub record Climb (b places : ℕ) (s t : List ℕ) (n v : ℕ) : Type 0 where
@@ -118,3 +118,49 @@ module _ (b places : ℕ) (s t : List ℕ) (n v : ℕ) (c : Climb b places s t n
       | no q ↦ c .right k x y q
     ];
   }
+
+-- A parent holds the larger of its child n and the sibling of n.
+parent : (b : ℕ) (t : List ℕ) (n : ℕ) → Right t b (n / 2) → node t b (n / 2) ≡ max (node t b n) (node t b (sibling n))
+parent b t n r = r ∙ sym (family t b n (node t b n) refl)
+
+-- A climb with a value that is not below what the node held: its parent holds at least what the sibling holds, and no more than the larger of the
+-- two now.
+pub record Rise (b places : ℕ) (s t : List ℕ) (n v : ℕ) : Type 0 where
+  pub climb : Climb b places s t n v
+  pub least : 1 < n → node t b (sibling n) ≤ node t b (n / 2)
+  pub most : 1 < n → node t b (n / 2) ≤ max v (node t b (sibling n))
+
+-- After node m is set to v, not below what it held.
+rise-at : (b places : ℕ) (s t : List ℕ) (m v : ℕ) → Climb b places s (set t (b + m) v) m v → (1 < m → Right t b (m / 2)) → node t b m ≤ v
+    → Rise b places s (set t (b + m) v) m v
+rise-at b places s t m v c r l = record {
+  climb = c;
+  least = λ x. rw (beside x, above x) (omega (arith, parent b t m (r x)));
+  most = λ x. rw (beside x, above x) (omega (arith, parent b t m (r x)));
+}
+  where
+    beside : 1 < m → node (set t (b + m) v) b (sibling m) ≡ node t b (sibling m)
+    beside x = getD-set-other t (b + m) (b + sibling m) v 0 (λ q. omega arith)
+
+    above : 1 < m → node (set t (b + m) v) b (m / 2) ≡ node t b (m / 2)
+    above x = getD-set-other t (b + m) (b + m / 2) v 0 (λ q. omega arith)
+
+pub rise-start : (b : ℕ) (shape : Shape) (t : List ℕ) (place value : ℕ) → Tree b shape t → (inside : place < shape .places)
+    → getD (leaves t b (shape .places)) place 0 ≤ value
+    → Rise b (shape .places) (set t (b + (shape .places + place)) value) (set t (b + (shape .places + place)) value) (shape .places + place) value
+rise-start b shape t place value tree inside l =
+    rise-at b (shape .places) _ t (shape .places + place) value (climb-start b shape t place value tree inside)
+    (λ x. tree .right ((shape .places + place) / 2) (omega arith) (omega arith))
+    (omega (arith, leaf-node t b (shape .places) place inside))
+
+module _ (b places : ℕ) (s t : List ℕ) (n v : ℕ) (c : Rise b places s t n v) (l : 1 < n) where
+  -- A parent that is below the value takes it.
+  pub rise-up : node t b (n / 2) < v → Rise b places s (set t (b + n / 2) v) (n / 2) v
+  rise-up x =
+      let same : max v (node t b (sibling n)) ≡ v = omega (arith, c .least l) in
+      rise-at b places s t (n / 2) v (subst (λ (w : ℕ). Climb b places s (set t (b + n / 2) w) (n / 2) w) same (climb-up b places s t n v (c .climb) l))
+      (λ y. c .climb .right (n / 2 / 2) (omega arith) (omega (arith, c .climb .high)) (λ q. omega arith)) (omega arith)
+
+  -- A parent that is not below it is right.
+  pub rise-stop : v ≤ node t b (n / 2) → Climb b places s t 1 (node t b 1)
+  rise-stop x = climb-stop b places s t n v (c .climb) l (omega (arith, c .least l, c .most l))

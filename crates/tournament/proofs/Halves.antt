@@ -1,6 +1,6 @@
 -- The descent: the leaves below a node are those of its left child and then those of its right child, and no leaf is above its node. Assumes nothing.
 use mathlib.Core.Path.{_≡_, refl, sym, ap, subst}
-use mathlib.Core.Bool.{cond}
+use mathlib.Core.Bool.{Bool, true, false, cond}
 use mathlib.Core.List.{List}
 use Prim.Native.Nat.{ℕ, zero, suc, _+_, _-_, _*_, _^_, _≤_, _<_}
 use native.Mathlib.Nat.{mul-add, add-mul, mul-assoc, one-mul, two-pow-succ, le-of-eq, mul-le-mul-left}
@@ -106,6 +106,11 @@ module _ (t : List ℕ) (b n h need : ℕ) (z : h ≡ 0 → ⊥) (d : Descent t 
     | yes y ↦ from-left r (rw (le-leb need (node t b (2 * n)) y) at f)
     | no y ↦ from-right r (omega (arith, y)) (rw (lt-leb need (node t b (2 * n)) (omega (arith, y))) at f)
   ]
+
+-- The word of a chosen node's left child is the chosen word.
+pub word-below : (x : Bool) (b l r : ℕ) → cond x (b + 2 * l) (b + 2 * r) ≡ b + 2 * cond x l r
+word-below true b l r = refl
+word-below false b l r = refl
 
 -- A leaf that holds enough is the one found below itself.
 pub bottom : (t : List ℕ) (b n need : ℕ) → need ≤ node t b n → First t b n 0 need n

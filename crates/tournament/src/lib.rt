@@ -2,7 +2,7 @@
 // leaves, one a place, are the nodes from the number of its places up. Each node holds the larger of its two children.
 ghost use mathlib.Core.Path.{_≡_};
 ghost use mathlib.Core.Bool.{cond};
-ghost use Prim.Native.Nat.{_≤_, _<_, max};
+ghost use Prim.Native.Nat.{_+_, _*_, _≤_, _<_, max};
 ghost use lib.Dec.{leb};
 ghost use lib.ListN.{getD};
 ghost use Rattle.tournament.specs.Shapes.{Fitted};
@@ -58,9 +58,11 @@ fn nearest(need: u32, largest: u32, near: usize, far: usize) -> usize
 }
 
 // The lowest leaf below node `n` that holds `need` or more, where `n` stands `height` levels above the leaves and holds as much itself. Each
-// level takes one look, at the left child: if that is too small, the right child holds what `n` holds.
-fn descend(t: &[u32; 5120], base: usize, n: usize, height: usize, need: u32) -> usize
-    requires { ⌜ Descent (now t) base n height need ⌝ }
+// level takes one look, at the left child, which is word `look` of the row: if that is too small, the right child holds what `n` holds. (The word
+// to look at next goes down beside its node: so the compiler branches at each look, and the processor runs ahead of them.)
+fn descend(t: &[u32; 5120], base: usize, n: usize, look: usize, height: usize, need: u32) -> usize
+    requires descent { ⌜ Descent (now t) base n height need ⌝ }
+    requires look { ⌜ look ≡ base + 2 * n ⌝ }
     ensures { λ r. ⌜ First (now (t .entry)) base n height need r ⌝ }
 {
     if height == 0 {
@@ -68,8 +70,12 @@ fn descend(t: &[u32; 5120], base: usize, n: usize, height: usize, need: u32) -> 
     }
     let left = 2 * n;
     let right = left + 1;
-    let child = nearest(need, t[base + left], left, right);
-    descend(t, base, child, height - 1, need)
+    let below_left = base + 2 * left;
+    let below_right = base + 2 * right;
+    let largest = t[look];
+    let child = nearest(need, largest, left, right);
+    let next = nearest(need, largest, below_left, below_right);
+    descend(t, base, child, next, height - 1, need)
 }
 
 // The lowest place that holds `need` or more. A need of 0 is never searched for: a place without space would meet it.
@@ -83,7 +89,8 @@ pub fn search(t: &[u32; 5120], base: usize, shape: Shape, need: u32) -> Found
     if t[base + 1] < need {
         return Found::Nothing;
     }
-    let leaf = descend(t, base, 1, height, need);
+    let look = base + 2;
+    let leaf = descend(t, base, 1, look, height, need);
     let place = leaf - places;
     Found::At(place)
 }
@@ -98,8 +105,28 @@ pub fn value(t: &[u32; 5120], base: usize, shape: Shape, place: usize) -> u32
     t[base + leaf]
 }
 
-// Sets one place, and carries the new maximum upward as far as it changes anything.
-pub fn store(t: &mut [u32; 5120], base: usize, shape: Shape, place: usize, value: u32)
+// Sets a place to a value not below what it holds: the maxima above it rise to that value, as far as they are below it.
+fn raise(t: &mut [u32; 5120], base: usize, shape: Shape, place: usize, value: u32)
+    requires tree { ⌜ Tree base shape (now t) ⌝ }
+    requires inside { ⌜ place < shape .places ⌝ }
+    requires rises { ⌜ getD (leaves (now t) base (shape .places)) place 0 ≤ value ⌝ }
+    ensures { λ _. ⌜ Stored base shape (now (t .entry)) place value (now (t .exit)) ⌝ }
+{
+    let places = shape.places;
+    let leaf = places + place;
+    let mut n = leaf;
+    t[base + n] = value;
+    while 1 < n {
+        n = n / 2;
+        if value <= t[base + n] {
+            return;
+        }
+        t[base + n] = value;
+    }
+}
+
+// Sets a place, and carries the new maximum upward as far as it changes anything.
+fn renew(t: &mut [u32; 5120], base: usize, shape: Shape, place: usize, value: u32)
     requires tree { ⌜ Tree base shape (now t) ⌝ }
     requires inside { ⌜ place < shape .places ⌝ }
     ensures { λ _. ⌜ Stored base shape (now (t .entry)) place value (now (t .exit)) ⌝ }
@@ -116,5 +143,19 @@ pub fn store(t: &mut [u32; 5120], base: usize, shape: Shape, place: usize, value
             return;
         }
         t[base + n] = largest;
+    }
+}
+
+// Sets a place. A value that rises, as that of a bin just opened, needs no look at the siblings above it.
+pub fn store(t: &mut [u32; 5120], base: usize, shape: Shape, place: usize, value: u32)
+    requires tree { ⌜ Tree base shape (now t) ⌝ }
+    requires inside { ⌜ place < shape .places ⌝ }
+    ensures { λ _. ⌜ Stored base shape (now (t .entry)) place value (now (t .exit)) ⌝ }
+{
+    let held = crate::value(t, base, shape, place);
+    if held <= value {
+        raise(t, base, shape, place, value);
+    } else {
+        renew(t, base, shape, place, value);
     }
 }

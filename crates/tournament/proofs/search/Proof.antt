@@ -1,4 +1,5 @@
 -- `search` meets its contract: the descent from the root. Assumes nothing.
+use mathlib.Core.Path.{refl}
 use native.Mathlib.Omega.{arith}
 use borrow.Author.Needs.{needs}
 use Rattle.tournament.proofs.Halves.{root-inside, root, root-found, root-lacking}
@@ -17,8 +18,11 @@ element-copy-out-if1 c = omega (arith, root-inside _ _ _ (c .pre .0))
 returns : tie.Need-returns
 returns c = root-lacking _ _ _ (c .before .before .pre .0) _ (omega arith)
 
+add-look : tie.Need-add-look
+add-look c = omega (arith, root-inside _ _ _ (c .before .before .pre .0))
+
 descend-requires : tie.Need-descend-requires
-descend-requires c κs = root _ _ _ (c .before .before .pre .0) _ (omega arith)
+descend-requires c κs = (root _ _ _ (c .before .before .pre .0) _ (omega arith), refl)
 
 sub-place : tie.Need-sub-place
 sub-place c = search needs
@@ -27,4 +31,4 @@ returns-2 : tie.Need-returns-2
 returns-2 c = root-found _ _ _ (c .before .before .before .pre .0) _ _ (c .descend .ensures)
 
 pub search-spec : {M : Type 1} → statement M
-search-spec = tie.close (tie.spec add-if1 mul-if1 element-copy-out-if1 returns descend-requires sub-place returns-2)
+search-spec = tie.close (tie.spec add-if1 mul-if1 element-copy-out-if1 returns add-look descend-requires sub-place returns-2)

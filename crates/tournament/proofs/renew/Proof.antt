@@ -1,8 +1,8 @@
--- `store` meets its contract. The invariant: every node is right but the parent of n. The measure is n. Assumes nothing.
+-- `renew` meets its contract. The invariant: every node is right but the parent of n. The measure is n. Assumes nothing.
 use native.Mathlib.Omega.{arith}
 use Rattle.tournament.proofs.Climb.{Climb, climb-start, sibling-inside, climb-up, climb-stop, climb-end}
-use Rattle.tournament.proofs.store.Statement.{statement}
-use Rattle.tournament.proofs.store.Tie as tie
+use Rattle.tournament.proofs.renew.Statement.{statement}
+use Rattle.tournament.proofs.renew.Tie as tie
 
 abbrev Inv-loop : tie.InvT-loop
 Inv-loop t₀ base place value places n₀ largest₀ t n largest = Climb base places t₀ t n largest
@@ -85,8 +85,8 @@ returns-2 c =
     let start = c .before .before in
     climb-end _ _ _ _ _ (start .pre .0) (start .pre .1) _ _ _ (c .before .loop .inv) (omega arith)
 
-pub store-spec : {M : Type 1} → statement M
-store-spec =
+pub renew-spec : {M : Type 1} → statement M
+renew-spec =
     tie.close
     (tie.spec
     Inv-loop
