@@ -8,8 +8,8 @@ use Prim.Native.Nat.{ℕ, _+_, _-_, _%_, _≤_, _<_}
 use native.Mathlib.Decide.{ℕ-discrete}
 use lib.Dec.{leb, eqb}
 use lib.ListN.{getD}
-use Rattle.packing.specs.declared.{Opening.Opening, SizeClass.SizeClass}
-use Rattle.packing.specs.SizeClasses.{sizeClass, isA, countB2}
+use Rattle.packing.specs.declared.Opening.{Opening}
+use Rattle.packing.specs.SizeClasses.{sizeClass, isA}
 use Rattle.packing.specs.Bins.{Bin, Packing, load, add, kind, holdsA}
 use Rattle.packing.specs.Placing.{classOf, firstFit, put, targetOf, target, takes, placed}
 use Rattle.packing.specs.Run.{item}
@@ -23,26 +23,23 @@ use Rattle.engine.proofs.Fit.{chosen, put-here, put-other}
 use Rattle.engine.proofs.Aiming.{aims, phases, tree-below, home-positive, home-below}
 use Rattle.engine.proofs.Shows.{agree, shows-after, hidden-after}
 
--- What the code has found out of an item before it searches: its class k, the tree n.
-pub record Aimed (o : Opening) (c : Counters) (size : ℕ) (k : SizeClass) (n : ℕ) : Type 0 where
+-- What the code has found out of an item before it searches: that a bin can hold it, and the tree n.
+pub record Aimed (o : Opening) (c : Counters) (size n : ℕ) : Type 0 where
   pub some : 1 ≤ size
   pub fits : size ≤ o .capacity
   pub phase : c .phase < o .m
-  pub class : k ≡ sizeClass (o .capacity) size
-  pub tree : n ≡ treeFor k (c .phase) (o .m)
+  pub tree : n ≡ treeFor (sizeClass (o .capacity) size) (c .phase) (o .m)
 
-module _ {o : Opening} {c : Counters} {size : ℕ} {k : SizeClass} {n : ℕ} (a : Aimed o c size k n) where
+module _ {o : Opening} {c : Counters} {size n : ℕ} (a : Aimed o c size n) where
   pub tree-few : n < 5
-  tree-few = rw (a .tree) (tree-below (c .phase) (o .m) k)
+  tree-few = rw (a .tree) (tree-below (c .phase) (o .m) (sizeClass (o .capacity) size))
 
   pub home-few : home n < 5
   home-few = home-below n tree-few
 
   module _ {shape : Shape} {t : List ℕ} {p : Packing} (r : Represents o shape (held t c) p) where
     pub aimed : target o p (item size) ≡ aim n
-    aimed =
-        ap (λ (x : SizeClass). targetOf o (p .b2s) x) (sym (a .class))
-        ∙ aims o (p .b2s) (c .phase) k (r .b2s) (a .phase) ∙ ap aim (sym (a .tree))
+    aimed = aims o (p .b2s) (c .phase) (sizeClass (o .capacity) size) (r .b2s) (a .phase) ∙ ap aim (sym (a .tree))
 
     pub fit : (b : Bin) → takes o p (item size) b ≡ leb size (shows o n b)
     fit = agree o p (item size) n (a .some) aimed
@@ -50,8 +47,8 @@ module _ {o : Opening} {c : Counters} {size : ℕ} {k : SizeClass} {n : ℕ} (a 
     pub phase-after : phaseAfter n (c .phase) ≡ placed o p (item size) .b2s % o .m
     unfolding placed
     phase-after =
-        ap (λ (x : ℕ). phaseAfter x (c .phase)) (a .tree) ∙ phases (p .b2s) (c .phase) (o .m) k (r .b2s) (a .phase)
-        ∙ ap (λ (x : SizeClass). (p .b2s + countB2 x) % o .m) (a .class)
+        ap (λ (x : ℕ). phaseAfter x (c .phase)) (a .tree)
+        ∙ phases (p .b2s) (c .phase) (o .m) (sizeClass (o .capacity) size) (r .b2s) (a .phase)
 
 -- In the model: the bin that would be opened, the place of the first bin that takes the item, the bin that the item joins, and what a place shows.
 module _ (o : Opening) (p : Packing) (size : ℕ) where

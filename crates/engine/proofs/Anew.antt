@@ -7,12 +7,12 @@ use native.Mathlib.Omega.{arith}
 use lib.Dec.{eqb}
 use lib.ListN.{length}
 use borrow.Author.Tests.{le-leb, lt-leb, ne-eqb, lt-ltb, le-ltb}
-use Rattle.packing.specs.declared.{Opening.Opening, SizeClass.SizeClass}
+use Rattle.packing.specs.declared.Opening.{Opening}
 use Rattle.packing.specs.declared.Outcome.the-variants.{Placed, Refused}
 use Rattle.packing.specs.declared.ItemReason.the-variants.{StockSpent}
 use Rattle.packing.specs.declared.Command.the-variants.{Shelve}
 use Rattle.packing.specs.Prelude.{total}
-use Rattle.packing.specs.SizeClasses.{isA}
+use Rattle.packing.specs.SizeClasses.{sizeClass, isA}
 use Rattle.packing.specs.Bins.{Bin, Packing, load, kind, holdsA}
 use Rattle.packing.specs.Placing.{classOf, target, takes, outcome, placed}
 use Rattle.packing.specs.Run.{item}
@@ -28,7 +28,7 @@ use Rattle.engine.proofs.Aiming.{home-class}
 use Rattle.engine.proofs.Shows.{beside-new}
 use Rattle.engine.proofs.Aimed.{Aimed, tree-few, aimed, fit, phase-after, new, at, join, showed, Fresh, shown-next}
 
-module _ {o : Opening} {c : Counters} {size : ℕ} {k : SizeClass} {n : ℕ} (a : Aimed o c size k n)
+module _ {o : Opening} {c : Counters} {size n : ℕ} (a : Aimed o c size n)
     {shape : Shape} {t : List ℕ} {p : Packing} (r : Represents o shape (held t c) p)
     (none : (j : ℕ) → j < shape .places → shownAt t (shape .places) n j < size) (room : c .opened ≤ shape .places) where
   none-at : at o p size ≡ length (p .bins)
@@ -66,7 +66,7 @@ module _ {o : Opening} {c : Counters} {size : ℕ} {k : SizeClass} {n : ℕ} (a 
   class-new = ap (λ (b : Bin). b .class) joins-new ∙ ap classOf (aimed a r) ∙ home-class n
 
   holds-new : (class : ℕ) → eqb n 1 ≡ (eqb (home n) 1 && (isA (kind o (item size)) || holdsA o (record { class = class; items = [] })))
-  holds-new class = rw (← a .class, a .tree) (beside-new o (c .phase) (o .m) k class)
+  holds-new class = rw (a .tree) (beside-new o (c .phase) (o .m) (sizeClass (o .capacity) size) class)
 
   left-new : o .capacity - size ≡ o .capacity - (size + load (join o p size))
   unfolding total

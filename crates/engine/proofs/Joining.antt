@@ -7,11 +7,11 @@ use native.Mathlib.Omega.{arith}
 use lib.Dec.{leb, eqb}
 use lib.ListN.{length}
 use borrow.Author.Tests.{ne-eqb, le-ltb}
-use Rattle.packing.specs.declared.{Opening.Opening, SizeClass.SizeClass}
+use Rattle.packing.specs.declared.Opening.{Opening}
 use Rattle.packing.specs.declared.Outcome.the-variants.{Placed}
 use Rattle.packing.specs.declared.Command.the-variants.{Shelve}
 use Rattle.packing.specs.Prelude.{if_then_else_}
-use Rattle.packing.specs.SizeClasses.{isA}
+use Rattle.packing.specs.SizeClasses.{sizeClass, isA}
 use Rattle.packing.specs.Bins.{Bin, Packing, load, kind, holdsA}
 use Rattle.packing.specs.Placing.{Target, permitted, target, takes, outcome, placed}
 use Rattle.packing.specs.Run.{item}
@@ -30,7 +30,7 @@ use Rattle.engine.proofs.Aiming.{home-positive}
 use Rattle.engine.proofs.Shows.{hidden-before, class-found, beside-found}
 use Rattle.engine.proofs.Aimed.{Aimed, tree-few, aimed, fit, phase-after, new, at, join, showed, Fresh, shown-next}
 
-module _ {o : Opening} {c : Counters} {size : ℕ} {k : SizeClass} {n : ℕ} (a : Aimed o c size k n)
+module _ {o : Opening} {c : Counters} {size n : ℕ} (a : Aimed o c size n)
     {shape : Shape} {t : List ℕ} {p : Packing} (r : Represents o shape (held t c) p)
     {i : ℕ} (within : i < shape .places) (f : Lowest size (leaves t (1024 * n) (shape .places)) i) where
   enough : size ≤ showed o p size n i
@@ -68,7 +68,7 @@ module _ {o : Opening} {c : Counters} {size : ℕ} {k : SizeClass} {n : ℕ} (a 
   class-here = class-found o n (join o p size) joins
 
   holds-after : (b : Bin) → permitted o (aim n) b ≡ true → leb n 1 ≡ (eqb (home n) 1 && (isA (kind o (item size)) || holdsA o b))
-  holds-after b e = rw (← a .class, a .tree) (beside-found o (c .phase) (o .m) k b (rw (a .tree) at e))
+  holds-after b e = rw (a .tree) (beside-found o (c .phase) (o .m) (sizeClass (o .capacity) size) b (rw (a .tree) at e))
 
   showed-join : (m : ℕ) → showed o p size m i ≡ shows o m (join o p size)
   showed-join m =

@@ -6,7 +6,7 @@ use Prim.Native.Nat.{ℕ, _+_, _*_, _<_}
 use native.Mathlib.Omega.{arith}
 use lib.Dec.{leb}
 use borrow.Author.Tests.{leb-true, leb-false}
-use Rattle.packing.specs.declared.{Opening.Opening, SizeClass.SizeClass}
+use Rattle.packing.specs.declared.Opening.{Opening}
 use Rattle.packing.specs.declared.Outcome.the-variants.{Placed, Refused}
 use Rattle.packing.specs.declared.ItemReason.the-variants.{StockSpent}
 use Rattle.packing.specs.declared.Command.the-variants.{Shelve}
@@ -34,7 +34,7 @@ here-not-spent : {s : Spot} → Here s ≡ Spent → ⊥
 here-not-spent e = let z : _≡_ {A = ℕ} 0 1 = cc in omega arith
 
 -- Searched for in tree n.
-module _ {o : Opening} {c : Counters} {size : ℕ} {k : SizeClass} {n : ℕ} (a : Aimed o c size k n)
+module _ {o : Opening} {c : Counters} {size n : ℕ} (a : Aimed o c size n)
     {shape : Shape} {t : List ℕ} (sound : Sound o shape (held t c)) where
   abbrev row : List ℕ
   row = leaves t (1024 * n) (shape .places)

@@ -6,10 +6,11 @@ use native.Mathlib.Omega.{arith}
 use lib.Dec.{leb, eqb}
 use lib.ListN.{length}
 use borrow.Author.Tests.{eq-eqb, ne-eqb, lt-ltb}
-use Rattle.packing.specs.declared.{Opening.Opening, SizeClass.SizeClass, Answer.Answer, ItemReason.ItemReason}
+use Rattle.packing.specs.declared.{Opening.Opening, Answer.Answer, ItemReason.ItemReason}
 use Rattle.packing.specs.declared.Outcome.the-variants.{Placed, Counted, Refused}
 use Rattle.packing.specs.declared.ItemReason.the-variants.{SizeZero, AboveCapacity, StockSpent}
 use Rattle.packing.specs.declared.Command.the-variants.{Shelve, Count}
+use Rattle.packing.specs.SizeClasses.{sizeClass}
 use Rattle.packing.specs.Bins.{Packing}
 use Rattle.packing.specs.Placing.{outcome}
 use Rattle.packing.specs.Run.{item}
@@ -55,13 +56,13 @@ module _ (o : Opening) (shape : Shape) (s : Store) (number size : ℕ) (sound : 
   done-large z l = done-refused AboveCapacity (λ p r. rw (ne-eqb size 0 z, lt-ltb (o .capacity) size l))
 
 -- Searched for in tree n.
-module _ {o : Opening} {c : Counters} {size : ℕ} {k : SizeClass} {n : ℕ} (a : Aimed o c size k n)
+module _ {o : Opening} {c : Counters} {size n : ℕ} (a : Aimed o c size n)
     {shape : Shape} {t : List ℕ} (sound : Sound o shape (held t c)) (number : ℕ) where
   places : length (leaves t (1024 * n) (shape .places)) ≡ shape .places
   places = leaf-count shape t (sound .forest) n (tree-few a)
 
   phase-still : phaseAfter n (c .phase) < o .m
-  phase-still = rw (a .tree) (phase-below (c .phase) (o .m) k (a .phase))
+  phase-still = rw (a .tree) (phase-below (c .phase) (o .m) (sizeClass (o .capacity) size) (a .phase))
 
   sound-after : {u : List ℕ} (opened : ℕ) → opened ≤ o .stock → Forest shape u → Sound o shape (held u (accepting n opened c))
   sound-after opened l f = record { forest = f; stock = sound .stock; within = l; phase = phase-still }

@@ -5,13 +5,15 @@ use packing::Command;
 use packing::ItemReason;
 use packing::Opening;
 use packing::Outcome;
-use packing::SizeClass;
+use packing::PerClass;
 use tournament::Found;
 use tournament::Shape;
 ghost use mathlib.Core.Path.{_≡_};
 ghost use Prim.Native.Nat.{_≤_, _<_};
+ghost use Rattle.packing.specs.declared.SizeClass.the-variants.{B2};
 ghost use Rattle.packing.specs.declared.Command.the-variants.{Shelve};
 ghost use Rattle.packing.specs.declared.Outcome.the-variants.{Refused};
+ghost use Rattle.packing.specs.SizeClasses.{sizeClass};
 ghost use Rattle.engine.specs.Aims.{home, treeFor, phaseAfter, accepting};
 ghost use Rattle.engine.specs.Store.{Forest, held, Ready};
 ghost use Rattle.engine.specs.Spots.{spotFor};
@@ -47,17 +49,28 @@ enum Room {
     Spent,
 }
 
-// The tree that is searched for an item: every m-th B2 goes beside an A.
-fn tree_for(class: SizeClass, phase: u16, m: u8) -> usize
+// The tree that is searched for the next B2: every m-th goes beside an A.
+fn b2_tree(phase: u16, m: u8) -> usize
     requires { ⌜ phase < m ⌝ }
-    ensures { λ r. ⌜ r ≡ treeFor class phase m ⌝ }
+    ensures { λ r. ⌜ r ≡ treeFor B2 phase m ⌝ }
 {
-    match class {
-        SizeClass::A => 1,
-        SizeClass::B1 => 2,
-        SizeClass::B2 => if phase + 1 == m as u16 { 0 } else { 3 },
-        SizeClass::X => 4,
-    }
+    let last = m as u16 - 1;
+    if phase == last { 0 } else { 3 }
+}
+
+// The tree that is searched for an item: that of its class, unless it is an m-th B2.
+fn tree_for(size: u32, capacity: u32, phase: u16, m: u8) -> usize
+    requires { ⌜ phase < m ⌝ }
+    ensures { λ r. ⌜ r ≡ treeFor (sizeClass capacity size) phase m ⌝ }
+{
+    let b2 = b2_tree(phase, m);
+    let trees = PerClass {
+        a: 1,
+        b1: 2,
+        b2,
+        x: 4,
+    };
+    packing::classify(size, capacity, trees)
 }
 
 // The phase once an item is accepted that was searched for in this tree: a B2 counts, in whichever class it lies.
@@ -170,8 +183,8 @@ fn refuse(number: usize, reason: ItemReason, counters: Counters) -> Step
     Step { answer, next }
 }
 
-// "Where a master goes": Refined First-Fit, one item.
-pub fn place(
+// An item that a bin can hold: to the first permitted bin with space, else to a new one, else refused.
+fn place_fitting(
     trees: &mut [u32; 5120],
     shape: Shape,
     counters: Counters,
@@ -179,18 +192,12 @@ pub fn place(
     number: usize,
     size: u32,
 ) -> Step
-    requires { ⌜ Ready opening shape (held (now trees) counters) ⌝ }
+    requires ready { ⌜ Ready opening shape (held (now trees) counters) ⌝ }
+    requires some { ⌜ 1 ≤ size ⌝ }
+    requires fits { ⌜ size ≤ opening .capacity ⌝ }
     ensures { λ r. ⌜ Done opening shape (held (now (trees .entry)) counters) number (Shelve size) (r .answer) (held (now (trees .exit)) (r .next)) ⌝ }
 {
-    let capacity = opening.capacity;
-    if size == 0 {
-        return refuse(number, ItemReason::SizeZero, counters);
-    }
-    if capacity < size {
-        return refuse(number, ItemReason::AboveCapacity, counters);
-    }
-    let class = packing::classify(size, capacity);
-    let tree = tree_for(class, counters.phase, opening.m);
+    let tree = tree_for(size, opening.capacity, counters.phase, opening.m);
     let room = find_spot(trees, shape, counters.opened, opening, tree, size);
     let Room::Here(spot) = room else {
         return refuse(number, ItemReason::StockSpent, counters);
@@ -206,6 +213,27 @@ pub fn place(
     // Last: how far a store climbs is not foreseen by the processor, and nothing but the next command is to wait for it.
     show(trees, shape, home, spot.beside, place, spot.free);
     Step { answer, next }
+}
+
+// "Where a master goes": Refined First-Fit, one item. One test finds that it is neither empty nor too large; which of the two is asked only then.
+pub fn place(
+    trees: &mut [u32; 5120],
+    shape: Shape,
+    counters: Counters,
+    opening: Opening,
+    number: usize,
+    size: u32,
+) -> Step
+    requires { ⌜ Ready opening shape (held (now trees) counters) ⌝ }
+    ensures { λ r. ⌜ Done opening shape (held (now (trees .entry)) counters) number (Shelve size) (r .answer) (held (now (trees .exit)) (r .next)) ⌝ }
+{
+    if packing::is_within(1, opening.capacity, size) {
+        return place_fitting(trees, shape, counters, opening, number, size);
+    }
+    if size == 0 {
+        return refuse(number, ItemReason::SizeZero, counters);
+    }
+    refuse(number, ItemReason::AboveCapacity, counters)
 }
 
 // How many bins are opened.

@@ -7,7 +7,7 @@ pub use mathlib.Core.Option.{Option, none, some}
 pub use mathlib.Core.List.{List, [], _∷_, _++_, map, foldl, List·Memᴰ}
 unfoldable pub use mathlib.Core.List.{zipWith, flatten}
 pub use lib.ListN.{length, take, drop, replicate}
-pub use Rattle.packing.specs.declared.{Opening.Opening, SizeClass.SizeClass, Command.Command, WidthRow.WidthRow, Width.Width}
+pub use Rattle.packing.specs.declared.{Opening.Opening, SizeClass.SizeClass, PerClass.PerClass, Command.Command, WidthRow.WidthRow, Width.Width}
 pub use Rattle.packing.specs.declared.{ItemReason.ItemReason, Outcome.Outcome, Answer.Answer, StreamReason.StreamReason, StreamResult.StreamResult}
 pub use Rattle.packing.specs.declared.{Entry.Entry, PlanReason.PlanReason, PlanResult.PlanResult}
 pub use Rattle.packing.specs.declared.SizeClass.the-variants.{A, B1, B2, X}

@@ -1,8 +1,10 @@
-// What the code shares with its definitions: size classes, operands, commands, answers and refusals of document 01. The packing of
+// What the code shares with its definitions: limits, size classes, operands, commands, answers and refusals of document 01. The packing of
 // document 01 is its shelf, a bin its cartridge, an item its master. Each enum of refusals has one definition that gives document 01's
 // numbers (specs/Refusals.antt).
 ghost use mathlib.Core.Path.{_≡_};
-ghost use Rattle.packing.specs.SizeClasses.{sizeClass};
+ghost use Rattle.packing.specs.Prelude.{_<?_, if_then_else_};
+ghost use Rattle.packing.specs.Limits.{within, openingGood};
+ghost use Rattle.packing.specs.SizeClasses.{sizeClass, numberOf};
 ghost use Rattle.packing.specs.Refusals.{itemNumber, streamNumber, planNumber, word};
 
 // "Size classes": A above a half of the capacity, B1 above two fifths, B2 above a third, X the rest.
@@ -11,6 +13,14 @@ pub enum SizeClass {
     B1,
     B2,
     X,
+}
+
+// A number for each size class.
+pub struct PerClass {
+    pub a: usize,
+    pub b1: usize,
+    pub b2: usize,
+    pub x: usize,
 }
 
 // The operands of the opening.
@@ -97,22 +107,54 @@ pub enum PlanResult {
     Refused { reason: PlanReason, place: usize },
 }
 
-// The size class, for every 32-bit size and capacity: the products are taken in 64 bits.
-pub fn classify(size: u32, capacity: u32) -> SizeClass
-    ensures { λ r. ⌜ r ≡ sizeClass capacity size ⌝ }
+// Whether a number is within limits, both of them included.
+pub fn is_within(least: u32, most: u32, n: u32) -> bool
+    ensures { λ r. ⌜ r ≡ within least most n ⌝ }
 {
-    let s = size as u64;
-    let c = capacity as u64;
-    if c < 2 * s {
-        return SizeClass::A;
+    if n < least {
+        return false;
     }
-    if 2 * c < 5 * s {
-        return SizeClass::B1;
+    n <= most
+}
+
+// Whether each operand of the opening is within its limits.
+pub fn opening_good(o: Opening) -> bool
+    ensures { λ r. ⌜ r ≡ openingGood o ⌝ }
+{
+    let capacity = o.capacity;
+    let stock = o.stock as u32;
+    let m = o.m as u32;
+    if is_within(1, 16777216, capacity) {
+        if is_within(1, 512, stock) {
+            return is_within(6, 9, m);
+        }
+        return false;
     }
-    if c < 3 * s {
-        return SizeClass::B2;
-    }
-    SizeClass::X
+    false
+}
+
+// The one number where the size is above the limit, else the other.
+fn above(limit: u32, size: u32, one: usize, other: usize) -> usize
+    ensures { λ r. ⌜ r ≡ (if limit <? size then one else other) ⌝ }
+{
+    if limit < size { one } else { other }
+}
+
+// The number that stands for the size class of an item, for every 32-bit size and capacity. A size is above a part of the capacity exactly when
+// it is above the whole units of that part, and these fit 32 bits. (Three choices and no way apart: the processor can't foresee the next class.)
+pub fn classify(size: u32, capacity: u32, numbers: PerClass) -> usize
+    ensures { λ r. ⌜ r ≡ numberOf numbers (sizeClass capacity size) ⌝ }
+{
+    let a = numbers.a;
+    let b1 = numbers.b1;
+    let b2 = numbers.b2;
+    let x = numbers.x;
+    let half = capacity / 2;
+    let fifths = 2 * (capacity / 5) + 2 * (capacity % 5) / 5;
+    let third = capacity / 3;
+    let large = above(half, size, a, b1);
+    let middle = above(fifths, size, large, b2);
+    above(third, size, middle, x)
 }
 
 // Document 01's number of an item's refusal.

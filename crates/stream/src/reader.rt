@@ -7,7 +7,7 @@ use packing::WidthRow;
 ghost use mathlib.Core.Path.{_≡_};
 ghost use Prim.Native.Nat.{_≤_};
 ghost use lib.ListN.{length, drop};
-ghost use Rattle.packing.specs.Limits.{within, openingGood, mostCommands};
+ghost use Rattle.packing.specs.Limits.{mostCommands};
 ghost use Rattle.packing.specs.Streams.{widths, lookup, openingOf, commandOf, commands, read};
 ghost use Rattle.stream.specs.Reading.{InStream, Operand, frontOf, means, summary};
 
@@ -88,31 +88,6 @@ pub fn opening_of(stream: &[u8]) -> Opening
     }
 }
 
-fn is_within(least: u32, most: u32, n: u32) -> bool
-    ensures { λ r. ⌜ r ≡ within least most n ⌝ }
-{
-    if n < least {
-        return false;
-    }
-    n <= most
-}
-
-// Whether each operand of the opening is within its limits.
-pub fn opening_good(o: Opening) -> bool
-    ensures { λ r. ⌜ r ≡ openingGood o ⌝ }
-{
-    let capacity = o.capacity;
-    let stock = o.stock as u32;
-    let m = o.m as u32;
-    if is_within(1, 16777216, capacity) {
-        if is_within(1, 512, stock) {
-            return is_within(6, 9, m);
-        }
-        return false;
-    }
-    false
-}
-
 // The command of an opcode that is in the table and is no opening, whole with its operands.
 fn command_of(opcode: u8, rest: &[u8]) -> Command
     requires { ⌜ (opcode ≡ 2 → 5 ≤ length (now rest)) ⌝ }
@@ -186,7 +161,7 @@ pub fn validate(stream: &[u8]) -> Summary
         return Summary::Refused(StreamReason::CutShort, 0);
     }
     let o = opening_of(stream);
-    if opening_good(o) {
+    if packing::opening_good(o) {
         return scan(stream, o);
     }
     Summary::Refused(StreamReason::OutsideLimits, 0)

@@ -1,144 +1,61 @@
--- `place` meets its contract: what is known of the item before the search, the spot that is found for it, and then each way out. Assumes nothing.
+-- `place` meets its contract: a size within 1 and the capacity is placed; of the others, 0 is refused first. Assumes nothing.
 use mathlib.Core.Path.{_≡_, sym, _∙_}
-use Prim.Native.Nat.{ℕ, _≤_, _<_}
+use mathlib.Core.Bool.{false, false≢true}
+use Prim.Native.Nat.{ℕ, _<_}
+use native.Mathlib.Decide.{decLe}
 use native.Mathlib.Omega.{arith}
 use borrow.Author.Needs.{needs}
-use Rattle.engine.specs.declared.Spot.{Spot}
-use Rattle.engine.specs.declared.Room.the-variants.{Here}
-use Rattle.engine.specs.Spots.{spotFor}
-use Rattle.engine.proofs.Aimed.{Aimed, tree-few, home-few}
+use Rattle.packing.specs.Limits.{within}
+use Rattle.packing.proofs.Limits.{within-limits, limits-within}
 use Rattle.engine.proofs.Ways.{done-zero, done-large}
-use Rattle.engine.proofs.Spotted.{done-none, spot-inside, done-placed}
 use Rattle.engine.proofs.place.Statement.{statement}
 use Rattle.engine.proofs.place.Tie as tie
 
--- Before the search: the item's class and its tree.
-abbrev start : tie.After-tree-for → tie.Start
-start c = c .before .before .before .before
+-- A size that is not 0 and not within 1 and the capacity is above the capacity.
+too-large : (capacity size : ℕ) → within 1 capacity size ≡ false → (size ≡ 0 → ⊥) → capacity < size
+too-large capacity size w z = elim (decLe size capacity) [
+  | yes l ↦ absurd (false≢true (sym w ∙ limits-within 1 capacity size (omega (arith, z)) l))
+  | no l ↦ omega (arith, l)
+]
 
-abbrev tree : tie.After-tree-for → ℕ
-tree c = c .tree-for .result
+is-within-requires : tie.Need-is-within-requires
+is-within-requires c κs = search needs
 
-aimed : (c : tie.After-tree-for)
-    → Aimed (start c .args .opening) (start c .args .counters) (start c .args .size) (c .before .classify .result) (tree c)
-aimed c = record {
-  some = omega (arith, c .before .before .before .if1 .left);
-  fits = omega (arith, c .before .before .if2 .left);
-  phase = start c .pre .sound .phase;
-  class = c .before .classify .ensures;
-  tree = c .tree-for .ensures;
-}
+place-fitting-requires : tie.Need-place-fitting-requires
+place-fitting-requires c κs =
+    let tested = c .before .before in
+    (tested .before .pre, within-limits 1 _ _ (sym (tested .is-within .ensures) ∙ c .before .if1 .taken))
 
--- Where there is room, the spot.
-abbrev searched : tie.After-known-told → tie.After-tree-for
-searched c = c .before .before .before .before .before
-
-abbrev begun : tie.After-known-told → tie.Start
-begun c = start (searched c)
-
-abbrev spot : tie.After-known-told → Spot
-spot c = c .before .room .given .0 .0
-
-here : (c : tie.After-known-told)
-    → spotFor (begun c .args .opening) (begun c .args .shape) (begun c .args .trees .now) (begun c .args .counters .opened) (tree (searched c))
-    (begun c .args .size)
-    ≡ Here (spot c)
-here c = sym (c .before .before .before .find-spot .ensures) ∙ c .before .room .given .1
-
-inside : (c : tie.After-known-told) → spot c .place < begun c .args .shape .places
-inside c = spot-inside (aimed (searched c)) (begun c .pre .sound) (here c)
-
-few : (c : tie.After-known-told) → begun c .args .shape .places ≤ 512
-few c = begun c .pre .sound .forest .few
+returns : tie.Need-returns
+returns c = search needs
 
 refuse-requires : tie.Need-refuse-requires
 refuse-requires c κs = search needs
 
-returns : tie.Need-returns
-returns c = rw (c .refuse .ensures) (done-zero _ _ _ _ _ (c .before .before .pre .sound) (c .before .if1 .taken))
+returns-2 : tie.Need-returns-2
+returns-2 c =
+    let start = c .before .before .before .before in
+    rw (c .refuse .ensures) (done-zero _ _ _ _ _ (start .pre .sound) (c .before .if2 .taken))
 
 refuse-requires-2 : tie.Need-refuse-requires-2
 refuse-requires-2 c κs = search needs
 
-returns-2 : tie.Need-returns-2
-returns-2 c =
-    let else1 = c .before .before in
-    rw (c .refuse2 .ensures) (done-large _ _ _ _ _ (else1 .before .pre .sound) (else1 .if1 .left) (omega (arith, c .before .if2 .taken)))
-
-classify-requires : tie.Need-classify-requires
-classify-requires c κs = search needs
-
-tree-for-requires : tie.Need-tree-for-requires
-tree-for-requires c κs = search needs
-
-find-spot-requires : tie.Need-find-spot-requires
-find-spot-requires c κs =
-    let e = c .before in
-    (start e .pre .sound .forest, (tree-few (aimed e), (aimed e .some, aimed e .fits)))
-
-enum-known-room : tie.Need-enum-known-room
-enum-known-room c = search needs
-
-enum-told : tie.Need-enum-told
-enum-told c = search needs
-
-refuse-requires-3 : tie.Need-refuse-requires-3
-refuse-requires-3 c κs = search needs
-
 returns-3 : tie.Need-returns-3
 returns-3 c =
-    let told = c .before in
-    let search = told .before .before in
-    let e = search .before .before in
-    rw (c .refuse3 .ensures)
-    (done-none (aimed e) (start e .pre .sound) _ (sym (search .find-spot .ensures) ∙ told .enum-told .given .1))
-
-home-of-requires : tie.Need-home-of-requires
-home-of-requires c κs = search needs
-
-accept-requires : tie.Need-accept-requires
-accept-requires c κs =
-    let s = begun (c .before) in
-    (omega (arith, s .pre .sound .phase), s .pre .room)
-
-add-bin : tie.Need-add-bin
-add-bin c = omega (arith, inside (c .before .before), few (c .before .before))
-
-cast-bin : tie.Need-cast-bin
-cast-bin c = omega (arith, inside (c .before .before), few (c .before .before))
-
-show-requires : tie.Need-show-requires
-show-requires c κs =
-    let home = c .before .before in
-    let e = home .before in
-    (begun e .pre .sound .forest, (rw (home .home-of .ensures) (home-few (aimed (searched e))), inside e))
-
-returns-4 : tie.Need-returns-4
-returns-4 c =
-    let accepted = c .before .before in
-    let home = accepted .before in
-    let e = home .before in
-    rw (accepted .accept .ensures)
-    (done-placed (aimed (searched e)) (begun e .pre .sound) (here e) _ (rw (home .home-of .ensures) at (c .show .ensures)))
+    let outside = c .before .before in
+    let tested = outside .before in
+    rw (c .refuse2 .ensures)
+    (done-large _ _ _ _ _ (tested .before .pre .sound) (c .before .if2 .left)
+    (too-large _ _ (sym (tested .is-within .ensures) ∙ outside .if1 .left) (c .before .if2 .left)))
 
 pub place-spec : {M : Type 1} → statement M
 place-spec =
     tie.close
     (tie.spec
-    refuse-requires
+    is-within-requires
+    place-fitting-requires
     returns
-    refuse-requires-2
+    refuse-requires
     returns-2
-    classify-requires
-    tree-for-requires
-    find-spot-requires
-    enum-known-room
-    enum-told
-    refuse-requires-3
-    returns-3
-    home-of-requires
-    accept-requires
-    add-bin
-    cast-bin
-    show-requires
-    returns-4)
+    refuse-requires-2
+    returns-3)

@@ -1,8 +1,8 @@
 -- `opening_good` meets its contract: the three tests are those of the limits. Assumes nothing.
 use mathlib.Core.Path.{sym, _∙_}
 use borrow.Author.Needs.{needs}
-use Rattle.stream.proofs.reader.opening_good.Statement.{statement}
-use Rattle.stream.proofs.reader.opening_good.Tie as tie
+use Rattle.packing.proofs.opening_good.Statement.{statement}
+use Rattle.packing.proofs.opening_good.Tie as tie
 
 cast-stock : tie.Need-cast-stock
 cast-stock c = search needs

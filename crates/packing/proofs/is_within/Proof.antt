@@ -1,7 +1,7 @@
 -- `is_within` meets its contract. Assumes nothing.
 use borrow.Author.Tests.{le-leb, lt-leb}
-use Rattle.stream.proofs.reader.is_within.Statement.{statement}
-use Rattle.stream.proofs.reader.is_within.Tie as tie
+use Rattle.packing.proofs.is_within.Statement.{statement}
+use Rattle.packing.proofs.is_within.Tie as tie
 
 returns : tie.Need-returns
 returns c = simp (lt-leb _ _ (c .if1 .taken))
