@@ -1,13 +1,13 @@
 -- The command at the front of a stream, by the tests that the reader makes. Assumes nothing.
-use mathlib.Core.Path.{_≡_, refl, ap, subst, _∙_}
+use mathlib.Core.Path.{_≡_, refl, sym, ap, subst, _∙_}
 use mathlib.Core.Bool.{Bool, true, false}
 use mathlib.Core.List.{List, [], _∷_}
-use Prim.Native.Nat.{ℕ, suc, _+_, _-_, _≤_, _<_}
+use Prim.Native.Nat.{ℕ, _+_, _-_, _≤_, _<_}
 use native.Mathlib.Omega.{arith}
 use lib.Dec.{eqb, ltb}
 use lib.ListN.{length, take, drop, getD, length-drop}
 use lib.Seq.{take-all}
-use borrow.Author.Tests.{eq-eqb, ne-eqb, lt-ltb, le-ltb, ltb-false}
+use borrow.Author.Tests.{eq-eqb, ne-eqb, lt-ltb, le-ltb, eqb-false, ltb-false}
 use Rattle.packing.specs.declared.{Command.Command, Width.Width}
 use Rattle.packing.specs.declared.Width.the-variants.{Known, Unknown}
 use Rattle.packing.specs.declared.StreamReason.the-variants.{UnknownOpcode, CutShort, SecondOpening}
@@ -43,20 +43,40 @@ pub shelve-width : (b w : ℕ) → lookup b widths ≡ Known w → b ≡ 2 → w
 unfolding widths lookup
 shelve-width b w e t = let f : lookup 2 widths ≡ Known w = subst (λ (x : ℕ). lookup x widths ≡ Known w) t e in cc
 
+-- The table's only row but those of the opening and of command 02 has no operand.
+pub count-width : (b w : ℕ) → lookup b widths ≡ Known w → (b ≡ 1 → ⊥) → (b ≡ 2 → ⊥) → w ≡ 0
+unfolding widths lookup
+count-width b w e t u = go (eqb 3 b) (rw (ne-eqb 1 b (λ q. t (sym q)), ne-eqb 2 b (λ q. u (sym q))) at e)
+  where
+    go : (k : Bool) → (if k then Known 0 else Unknown) ≡ Known w → w ≡ 0
+    go true q = cc
+    go false q = absurd (let z : _≡_ {A = ℕ} 0 1 = cc in omega arith)
+
+-- The tests that a whole front has passed.
+pub record Passed (s : List ℕ) (w : ℕ) : Type 0 where
+  pub known : lookup (getD s 0 0) widths ≡ Known w
+  pub no-opening : getD s 0 0 ≡ 1 → ⊥
+  pub inside : w + 1 ≤ length s
+
+pub whole-passed : (s : List ℕ) (c : Command) (w : ℕ) → frontOf s ≡ whole c w → Passed s w
+whole-passed [] c w e = absurd (let z : _≡_ {A = ℕ} 0 1 = cc in omega arith)
+whole-passed (b ∷ s) c w e = go (lookup b widths) refl e
+  where
+    fits : (v : ℕ) (t u : Bool) → lookup b widths ≡ Known v → eqb b 1 ≡ t → ltb (length s) v ≡ u
+        → (if t then faulty SecondOpening else if u then faulty CutShort else whole (commandOf b s) v) ≡ whole c w → Passed (b ∷ s) w
+    fits v true u k n p q = absurd (let z : _≡_ {A = ℕ} 0 1 = cc in omega arith)
+    fits v false true k n p q = absurd (let z : _≡_ {A = ℕ} 0 1 = cc in omega arith)
+    fits v false false k n p q =
+        let same : v ≡ w = cc in
+        record { known = k ∙ ap Known same; no-opening = eqb-false b 1 n; inside = omega (arith, ltb-false (length s) v p) }
+
+    go : (k : Width) → lookup b widths ≡ k → front b s k ≡ whole c w → Passed (b ∷ s) w
+    go Unknown p q = absurd (let z : _≡_ {A = ℕ} 0 1 = cc in omega arith)
+    go (Known v) p q = fits v (eqb b 1) (ltb (length s) v) p refl refl q
+
 -- A whole command stands inside the stream.
 pub whole-inside : (s : List ℕ) (c : Command) (w : ℕ) → 1 ≤ length s → frontOf s ≡ whole c w → w + 1 ≤ length s
-whole-inside [] c w h e = absurd (omega arith)
-whole-inside (b ∷ s) c w h e = go (lookup b widths) e
-  where
-    fits : (x v : ℕ) (t u : Bool) → ltb (length s) v ≡ u
-        → (if t then faulty SecondOpening else if u then faulty CutShort else whole (commandOf b s) v) ≡ whole c w → w + 1 ≤ suc (length s)
-    fits x v true u p q = absurd (let z : _≡_ {A = ℕ} 0 1 = cc in omega arith)
-    fits x v false true p q = absurd (let z : _≡_ {A = ℕ} 0 1 = cc in omega arith)
-    fits x v false false p q = let same : v ≡ w = cc in omega (arith, ltb-false (length s) v p)
-
-    go : (k : Width) → front b s k ≡ whole c w → w + 1 ≤ suc (length s)
-    go Unknown q = absurd (let z : _≡_ {A = ℕ} 0 1 = cc in omega arith)
-    go (Known v) q = fits b v (eqb b 1) (ltb (length s) v) refl q
+whole-inside s c w h e = whole-passed s c w e .inside
 
 -- What follows the first n bytes, as the part of the slice that is handed on.
 pub part-is : (s : List ℕ) (n : ℕ) → n ≤ length s → take (length s - n) (drop n s) ≡ drop n s

@@ -6,10 +6,10 @@ use native.Mathlib.Numerals.{add-one}
 use native.Mathlib.Omega.{arith}
 use lib.ListN.{length, take, drop, set, length-append, length-drop, length-set, take-append-drop, replicate}
 use lib.Seq.{take-suc-set, drop-set-lt, drop-drop}
-use Rattle.packing.specs.declared.{Opening.Opening, Command.Command, Answer.Answer, StreamReason.StreamReason}
+use Rattle.packing.specs.declared.{Opening.Opening, Command.Command, Answer.Answer}
 use Rattle.packing.specs.Refusals.{word}
 use Rattle.packing.specs.Bins.{Packing, empty, opened}
-use Rattle.packing.specs.Streams.{accepted, whole, faulty, commands, verdict}
+use Rattle.packing.specs.Streams.{Front, accepted, whole, faulty, commands, verdict}
 use Rattle.packing.specs.Run.{placement, answerTo, next, outcomesFrom, packing, outcomes, placements}
 use Rattle.packing.specs.Claims.{Whole}
 use Rattle.packing.proofs.Trace.{placementsFrom}
@@ -22,7 +22,7 @@ use Rattle.engine.specs.Store.{held, Sound, Ready, Represents}
 use Rattle.engine.specs.Done.{Done}
 use Rattle.engine.proofs.Empty.{zeroCounters, empty-sound, empty-represents}
 use Rattle.stream.specs.declared.run.Totals.{Totals}
-use Rattle.stream.specs.Reading.{frontOf}
+use Rattle.stream.specs.Reading.{WholeFront, frontOf}
 use Rattle.stream.specs.Running.{Runnable, Ran}
 use Rattle.stream.proofs.Scanning.{commands-none}
 use Rattle.stream.proofs.Following.{Rest, rest-of, never-faulty}
@@ -85,8 +85,13 @@ module _ (o : Opening) (shape : Shape) (stream row : List ℕ) where
     going-few = omega (arith, g .counted, ok .commands-few)
 
     module _ (some : 1 ≤ length rest) where
-      pub going-faulty : (reason : StreamReason) {A : Type 0} → frontOf rest ≡ faulty reason → A
-      going-faulty reason f = never-faulty o (g .offset) rest (g .coming) some (g .left) reason f (g .reads)
+      -- The rest is read with no fault, so a whole command stands at its front.
+      pub going-whole : WholeFront rest
+      going-whole = go (frontOf rest) refl
+        where
+          go : (r : Front) → frontOf rest ≡ r → WholeFront rest
+          go (whole command w) f = record { command = command; width = w; front = f }
+          go (faulty reason) f = never-faulty o (g .offset) rest (g .coming) some (g .left) reason f (g .reads)
 
       module _ (command : Command) (w : ℕ) (f : frontOf rest ≡ whole command w) where
         more : Rest o (g .left) (g .offset) rest command w (g .coming)

@@ -3,6 +3,7 @@ use mathlib.Core.List.{List, [], _∷_}
 use mathlib.Core.Path.{_≡_}
 use Prim.Native.Nat.{ℕ, _+_, _^_, _≤_, _<_}
 use lib.ListN.{length}
+use Rattle.packing.specs.declared.Command.{Command}
 use Rattle.packing.specs.declared.StreamReason.the-variants.{UnknownOpcode}
 use Rattle.packing.specs.Streams as model
 use Rattle.packing.specs.Streams.{Read, widths, lookup}
@@ -25,6 +26,12 @@ pub record Operand (at width : ℕ) (s : List ℕ) (n : ℕ) : Type 0 where
 abbrev pub frontOf : List ℕ → model.Front
 frontOf [] = model.faulty UnknownOpcode
 frontOf (b ∷ s) = model.front b s (lookup b widths)
+
+-- A whole command stands at the front.
+pub record WholeFront (s : List ℕ) : Type 0 where
+  pub command : Command
+  pub width : ℕ
+  pub front : frontOf s ≡ model.whole command width
 
 -- The model's value of a front.
 abbrev pub means : Front → model.Front

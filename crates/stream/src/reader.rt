@@ -8,8 +8,8 @@ ghost use mathlib.Core.Path.{_≡_};
 ghost use Prim.Native.Nat.{_≤_};
 ghost use lib.ListN.{length, drop};
 ghost use Rattle.packing.specs.Limits.{mostCommands};
-ghost use Rattle.packing.specs.Streams.{widths, lookup, openingOf, commandOf, commands, read};
-ghost use Rattle.stream.specs.Reading.{InStream, Operand, frontOf, means, summary};
+ghost use Rattle.packing.specs.Streams.{widths, lookup, openingOf, commandOf, whole, commands, read};
+ghost use Rattle.stream.specs.Reading.{InStream, Operand, WholeFront, frontOf, means, summary};
 
 // "One table gives each command byte its operand width."
 const ROWS: usize = 3;
@@ -33,6 +33,12 @@ const WIDTHS: [WidthRow; ROWS] = [
 pub enum Front {
     Whole(Command, usize),
     Faulty(StreamReason),
+}
+
+// A command and its operand width.
+pub struct Whole {
+    pub command: Command,
+    pub width: usize,
 }
 
 // What the first pass finds: the opening and the number of commands after it; or the first fault and its offset.
@@ -118,6 +124,17 @@ pub fn read_front(rest: &[u8]) -> Front
     }
     let command = command_of(opcode, rest);
     Front::Whole(command, width)
+}
+
+// The command at the front of a stream where the first pass has found no fault: nothing is checked again.
+pub fn accepted_front(rest: &[u8]) -> Whole
+    requires { ⌜ WholeFront (now rest) ⌝ }
+    ensures { λ r. ⌜ whole (r .command) (r .width) ≡ frontOf (now (rest .entry)) ⌝ }
+{
+    let opcode = rest[0];
+    let command = command_of(opcode, rest);
+    let width = if opcode == 2 { 4 } else { 0 };
+    Whole { command, width }
 }
 
 // Reads the commands after the opening, of which there may be 4,096; refusal 6 comes first.

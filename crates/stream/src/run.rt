@@ -1,7 +1,6 @@
 // The second pass: the commands of an accepted stream, answered one after another. What follows a command is handed on as a part of the
 // stream; the engine's store is local here and lent to each step.
 use crate::reader;
-use crate::reader::Front;
 use engine::Counters;
 use packing::Opening;
 ghost use Rattle.stream.specs.Running.{Runnable, Ran};
@@ -27,12 +26,8 @@ pub fn answer_all(stream: &[u8], opening: Opening, answers: &mut [u16]) -> Total
     let mut rest = &stream[8..];
     let mut done: usize = 0;
     while 0 < rest.len() {
-        let Front::Whole(command, width) = reader::read_front(rest) else {
-            return Totals {
-                items: 0,
-                opened: 0,
-            };
-        };
+        let front = reader::accepted_front(rest);
+        let command = front.command;
         let number = done + 1;
         let step = engine::answer(&mut trees, shape, counters, opening, number, command);
         let answer = step.answer;
@@ -40,7 +35,7 @@ pub fn answer_all(stream: &[u8], opening: Opening, answers: &mut [u16]) -> Total
         answers[done] = packing::word_of(outcome);
         counters = step.next;
         done = number;
-        let used = width + 1;
+        let used = front.width + 1;
         rest = &rest[used..];
     }
     let items = counters.items as usize;

@@ -1,6 +1,6 @@
 -- `answer_all` meets its contract. The invariant: what is still to come completes the answers, the packing and the totals (Going). The measure is the
 -- length of the rest. Assumes nothing.
-use mathlib.Core.Path.{_≡_, refl, sym, ap, subst, _∙_}
+use mathlib.Core.Path.{_≡_, refl, sym, subst}
 use Prim.Native.Nat.{ℕ, _+_, _≤_, _<_}
 use native.Mathlib.Omega.{arith}
 use lib.ListN.{length, replicate}
@@ -8,9 +8,9 @@ use borrow.Author.Needs.{needs}
 use Rattle.packing.specs.Streams.{whole}
 use Rattle.packing.proofs.Limits.{in-limits}
 use Rattle.engine.proofs.Empty.{zeroCounters}
-use Rattle.stream.specs.Reading.{frontOf, means}
+use Rattle.stream.specs.Reading.{frontOf}
 use Rattle.stream.proofs.Fronts.{whole-inside, part-is}
-use Rattle.stream.proofs.Going.{Going, runnable-whole, going-start, going-ready, going-few, going-faulty, going-word, going-next, going-end}
+use Rattle.stream.proofs.Going.{Going, runnable-whole, going-start, going-ready, going-few, going-whole, going-word, going-next, going-end}
 use Rattle.stream.proofs.run.answer_all.Statement.{statement}
 use Rattle.stream.proofs.run.answer_all.Tie as tie
 
@@ -21,27 +21,27 @@ Inv-loop stream opening answers₀ shape trees₀ counters₀ rest₀ done₀ an
 abbrev μ-loop : tie.MeasureT-loop
 μ-loop stream opening answers₀ shape trees₀ counters₀ rest₀ done₀ answers trees counters rest done = length rest
 
--- Where the front is whole: its width, and that it stands inside.
-abbrev look : tie.After-known-told Inv-loop μ-loop → tie.In-loop Inv-loop μ-loop
-look c = c .before .before .before .before
+-- Where the front is read: its width, and that it stands inside.
+abbrev width : tie.After-accepted-front Inv-loop μ-loop → ℕ
+width c = c .accepted-front .result .width
 
-abbrev width : tie.After-known-told Inv-loop μ-loop → ℕ
-width c = c .before .command .given .0 .1 .0
+whole-front : (c : tie.After-accepted-front Inv-loop μ-loop) → frontOf (c .before .before .loop .rest .now) ≡ whole (c .accepted-front .result .command) (width c)
+whole-front c = sym (c .accepted-front .ensures)
 
-whole-front : (c : tie.After-known-told Inv-loop μ-loop) → frontOf (look c .before .loop .rest .now) ≡ whole (c .before .command .given .0 .0) (width c)
-whole-front c = sym (ap means (sym (c .before .command .given .1)) ∙ c .before .before .before .read-front .ensures)
+inside : (c : tie.After-accepted-front Inv-loop μ-loop) → width c + 1 ≤ length (c .before .before .loop .rest .now)
+inside c = whole-inside (c .before .before .loop .rest .now) _ (width c) (c .before .loop-test .taken) (whole-front c)
 
-inside : (c : tie.After-known-told Inv-loop μ-loop) → width c + 1 ≤ length (look c .before .loop .rest .now)
-inside c = whole-inside (look c .before .loop .rest .now) _ (width c) (look c .loop-test .taken) (whole-front c)
+-- From the engine's answer, and from what follows it, back to the front.
+abbrev read : tie.After-word-of Inv-loop μ-loop → tie.After-accepted-front Inv-loop μ-loop
+read c = c .before .before .before .before
 
--- From the engine's answer back to the front.
-abbrev known : tie.After-word-of Inv-loop μ-loop → tie.After-known-told Inv-loop μ-loop
-known c = c .before .before .before .before
+abbrev used : tie.After-struct-known Inv-loop μ-loop → tie.After-accepted-front Inv-loop μ-loop
+used c = read (c .before .before)
 
-here : (c : tie.After-word-of Inv-loop μ-loop) → look (known c) .before .loop .done < length (look (known c) .before .loop .answers)
+here : (c : tie.After-word-of Inv-loop μ-loop) → read c .before .before .loop .done < length (read c .before .before .loop .answers)
 here c =
-    let k = known c in
-    going-word _ _ _ _ _ _ _ _ _ (look k .before .loop .inv) (look k .loop-test .taken) _ (width k) (whole-front k)
+    let f = read c in
+    going-word _ _ _ _ _ _ _ _ _ (f .before .before .loop .inv) (f .before .loop-test .taken) _ (width f) (whole-front f)
 
 shape-of-requires : tie.Need-shape-of-requires Inv-loop μ-loop
 shape-of-requires c κs =
@@ -67,29 +67,14 @@ loop-holds c =
     subst (λ r. Going (s .args .opening) (f .shape-of .result) stream row row (replicate 5120 0) r zeroCounters 0) (sym (part-is stream 8 (w .opening-whole)))
     (going-start (s .args .opening) (f .shape-of .result) stream row 5120 refl (s .pre) (f .shape-of .ensures))
 
-read-front-requires : tie.Need-read-front-requires Inv-loop μ-loop
-read-front-requires c κs = c .loop-test .taken
-
-enum-known-command : tie.Need-enum-known-command Inv-loop μ-loop
-enum-known-command c = search needs
-
-enum-told : tie.Need-enum-told Inv-loop μ-loop
-enum-told c = search needs
-
-same-length : tie.Need-same-length Inv-loop μ-loop
-same-length c = c .before .before .before .before .loop .inv .same
-
-returns : tie.Need-returns Inv-loop μ-loop
-returns c =
-    let l = c .before .before .before in
-    going-faulty _ _ _ _ _ _ _ _ _ (l .before .loop .inv) (l .loop-test .taken) (c .enum-told .given .0 .0)
-    (sym (ap means (sym (c .enum-told .given .1)) ∙ c .before .before .read-front .ensures))
+accepted-front-requires : tie.Need-accepted-front-requires Inv-loop μ-loop
+accepted-front-requires c κs = going-whole _ _ _ _ _ _ _ _ _ (c .before .loop .inv) (c .loop-test .taken)
 
 add-number : tie.Need-add-number Inv-loop μ-loop
-add-number c = omega (arith, going-few _ _ _ _ _ _ _ _ _ (look c .before .loop .inv))
+add-number c = omega (arith, going-few _ _ _ _ _ _ _ _ _ (c .before .before .loop .inv))
 
 answer-requires : tie.Need-answer-requires Inv-loop μ-loop
-answer-requires c κs = going-ready _ _ _ _ _ _ _ _ _ (look (c .before) .before .loop .inv)
+answer-requires c κs = going-ready _ _ _ _ _ _ _ _ _ (c .before .before .before .loop .inv)
 
 word-of-requires : tie.Need-word-of-requires Inv-loop μ-loop
 word-of-requires c κs = search needs
@@ -101,27 +86,27 @@ slice-write-answers : tie.Need-slice-write-answers Inv-loop μ-loop
 slice-write-answers c = here c
 
 add-used : tie.Need-add-used Inv-loop μ-loop
-add-used c = omega (arith, inside (known (c .before)), look (known (c .before)) .before .loop .inv .inside)
+add-used c = omega (arith, inside (used c), used c .before .before .loop .inv .inside)
 
 sub-rest-2 : tie.Need-sub-rest-2 Inv-loop μ-loop
-sub-rest-2 c = inside (known (c .before))
+sub-rest-2 c = inside (used c)
 
 part-rest-start-2 : tie.Need-part-rest-start-2 Inv-loop μ-loop
-part-rest-start-2 c = omega (arith, inside (known (c .before)))
+part-rest-start-2 c = omega (arith, inside (used c))
 
 part-rest-end-2 : tie.Need-part-rest-end-2 Inv-loop μ-loop
 part-rest-end-2 c = search needs
 
 loop-less : tie.Need-loop-less Inv-loop μ-loop
-loop-less c = omega (arith, inside (known (c .before .before)))
+loop-less c = omega (arith, inside (used (c .before)))
 
 loop-again : tie.Need-loop-again Inv-loop μ-loop
 loop-again c =
-    let w = c .before .before in
-    let k = known w in
-    let l = look k in
-    going-next _ _ _ _ _ _ _ _ _ (l .before .loop .inv) (l .loop-test .taken) _ (width k) (whole-front k) _ _ _ _ _ (w .before .before .answer .ensures)
-    (w .word-of .ensures) (part-is (l .before .loop .rest .now) (width k + 1) (inside k))
+    let w = c .before .before .before in
+    let f = read w in
+    let l = f .before in
+    going-next _ _ _ _ _ _ _ _ _ (l .before .loop .inv) (l .loop-test .taken) _ (width f) (whole-front f) _ _ _ _ _ (w .before .before .answer .ensures)
+    (w .word-of .ensures) (part-is (l .before .loop .rest .now) (width f + 1) (inside f))
 
 cast-items : tie.Need-cast-items Inv-loop μ-loop
 cast-items c = search needs
@@ -129,11 +114,11 @@ cast-items c = search needs
 cast-opened : tie.Need-cast-opened Inv-loop μ-loop
 cast-opened c = search needs
 
-same-length-2 : tie.Need-same-length-2 Inv-loop μ-loop
-same-length-2 c = c .before .before .before .loop .inv .same
+same-length : tie.Need-same-length Inv-loop μ-loop
+same-length c = c .before .before .before .loop .inv .same
 
-returns-2 : tie.Need-returns-2 Inv-loop μ-loop
-returns-2 c =
+returns : tie.Need-returns Inv-loop μ-loop
+returns c =
     let l = c .before .before in
     going-end _ _ _ _ _ _ _ _ _ (l .before .loop .inv) (l .loop-test .left) _ refl refl
 
@@ -148,11 +133,7 @@ answer-all-spec =
     part-rest-start
     part-rest-end
     loop-holds
-    read-front-requires
-    enum-known-command
-    enum-told
-    same-length
-    returns
+    accepted-front-requires
     add-number
     answer-requires
     word-of-requires
@@ -166,5 +147,5 @@ answer-all-spec =
     loop-again
     cast-items
     cast-opened
-    same-length-2
-    returns-2)
+    same-length
+    returns)
