@@ -2,7 +2,10 @@
 //! tournament trees by hand, and `scan`, which tries bin after bin.
 //!
 //! - `bench` alternates the contestants over many rounds and prints the median
-//!   time of a stream for each, with the ratio of library to tree.
+//!   time of a stream for each, and the median of the rounds' ratios of library
+//!   to tree. Every turn repeats one stream, which the processor's branch
+//!   prediction partly learns; `bench --fresh` goes on to other streams of the
+//!   mix at every turn.
 //! - `bench --once MIX CONTESTANT` runs one of them [`REPEATS`] times, for a
 //!   tool that counts instructions; the contestant `none` does all but the
 //!   shelving, to be taken off.
@@ -19,12 +22,15 @@ use std::process::ExitCode;
 use std::time::Instant;
 
 use mixes::{Mix, MIXES};
+use shelf::StreamBuilder;
 
 /// How often `--once` shelves the stream.
 const REPEATS: u32 = 20;
 const ROUNDS: usize = 61;
 /// A contestant's turn in a round, in streams.
-const TURN: u32 = 8;
+const TURN: usize = 8;
+/// How many streams of a mix `--fresh` goes through.
+const FRESH: u64 = 64;
 
 type Engine = fn(&[u8], &mut [u16]) -> u64;
 
@@ -47,7 +53,11 @@ fn main() -> ExitCode {
     let args: Vec<&str> = args.iter().map(String::as_str).collect();
     let done = match args[..] {
         [] => {
-            compare();
+            compare(1);
+            true
+        }
+        ["--fresh"] => {
+            compare(FRESH);
             true
         }
         ["--mixes"] => {
@@ -61,7 +71,7 @@ fn main() -> ExitCode {
         return ExitCode::SUCCESS;
     }
     let mixes: Vec<&str> = MIXES.iter().map(|mix| mix.name).collect();
-    eprintln!("usage: bench [--mixes | --once MIX CONTESTANT]");
+    eprintln!("usage: bench [--fresh | --mixes | --once MIX CONTESTANT]");
     eprintln!("mixes: {}", mixes.join(", "));
     eprintln!("contestants: library, tree, scan, none");
     ExitCode::from(2)
@@ -71,7 +81,7 @@ fn once(mix: &str, contestant: &str) -> bool {
     let Some(mix) = MIXES.iter().find(|known| known.name == mix) else {
         return false;
     };
-    let stream = mix.stream();
+    let stream = mix.stream(1);
     let mut row = stream.answer_row();
     let engine = CONTESTANTS.iter().find(|(name, _)| *name == contestant);
     match engine {
@@ -88,46 +98,67 @@ fn run(engine: Engine, stream: &[u8], row: &mut [u16], times: u32) -> bool {
     true
 }
 
-fn compare() {
+/// Compares the contestants on so many streams of each mix.
+fn compare(streams: u64) {
     println!("ns for a stream of 4096 commands, median of {ROUNDS} rounds");
     println!(
         "{:<10}{:>10}{:>10}{:>10}{:>16}{:>16}",
         "mix", "library", "tree", "scan", "library/tree", "by the least"
     );
     for mix in &MIXES {
-        let stream = mix.stream();
-        check_agreement(mix, stream.bytes());
-        let mut row = stream.answer_row();
-        let mut times: [Vec<f64>; 3] = Default::default();
-        for round in 0..=ROUNDS {
-            for (i, (_, engine)) in CONTESTANTS.iter().enumerate() {
-                let start = Instant::now();
-                run(*engine, stream.bytes(), &mut row, TURN);
-                let time = start.elapsed().as_nanos() as f64 / f64::from(TURN);
-                // The first round only warms up.
-                if round > 0 {
-                    times[i].push(time);
-                }
-            }
+        let streams: Vec<_> = (1..=streams).map(|seed| mix.stream(seed)).collect();
+        for stream in &streams {
+            check_agreement(mix, stream);
         }
-        times.iter_mut().for_each(|row| row.sort_by(f64::total_cmp));
-        let [library, tree, scan] = times.each_ref().map(|row| row[row.len() / 2]);
+        let times = take_turns(&streams);
+        let rounds = times[0].iter().zip(&times[1]);
+        let ratio = median(rounds.map(|(library, tree)| library / tree).collect());
+        let by_the_least = least(&times[0]) / least(&times[1]);
+        let [library, tree, scan] = times.map(median);
         println!(
-            "{:<10}{library:>10.0}{tree:>10.0}{scan:>10.0}{:>16.2}{:>16.2}",
-            mix.name,
-            library / tree,
-            times[0][0] / times[1][0],
+            "{:<10}{library:>10.0}{tree:>10.0}{scan:>10.0}{ratio:>16.2}{by_the_least:>16.2}",
+            mix.name
         );
     }
 }
 
+/// The time that a stream took each contestant in each round.
+fn take_turns(streams: &[StreamBuilder]) -> [Vec<f64>; 3] {
+    let mut row = streams[0].answer_row();
+    let mut times: [Vec<f64>; 3] = Default::default();
+    for round in 0..=ROUNDS {
+        for (times, (_, engine)) in times.iter_mut().zip(CONTESTANTS) {
+            let turn = streams.iter().cycle().skip(round * TURN % streams.len());
+            let start = Instant::now();
+            for stream in turn.take(TURN) {
+                run(engine, stream.bytes(), &mut row, 1);
+            }
+            let time = start.elapsed().as_nanos() as f64 / TURN as f64;
+            // The first round only warms up.
+            if round > 0 {
+                times.push(time);
+            }
+        }
+    }
+    times
+}
+
+fn least(figures: &[f64]) -> f64 {
+    figures.iter().copied().fold(f64::INFINITY, f64::min)
+}
+
+fn median(mut figures: Vec<f64>) -> f64 {
+    figures.sort_by(f64::total_cmp);
+    figures[figures.len() / 2]
+}
+
 /// A contestant that answers otherwise has nothing to compare.
-fn check_agreement(mix: &Mix, stream: &[u8]) {
+fn check_agreement(mix: &Mix, stream: &StreamBuilder) {
     let answers: Vec<_> = CONTESTANTS
         .iter()
         .map(|(_, engine)| {
-            let mut row = mix.stream().answer_row();
-            (engine(stream, &mut row), row)
+            let mut row = stream.answer_row();
+            (engine(stream.bytes(), &mut row), row)
         })
         .collect();
     assert!(

@@ -51,9 +51,9 @@ pub const MIXES: [Mix; 6] = [
 ];
 
 impl Mix {
-    /// The stream, the same in every run.
-    pub fn stream(&self) -> StreamBuilder {
-        let mut numbers = Numbers(1);
+    /// The stream of this number, the same in every run.
+    pub fn stream(&self, seed: u64) -> StreamBuilder {
+        let mut numbers = Numbers(seed);
         let mut stream = StreamBuilder::open(CAPACITY, MAX_STOCK, 6);
         for _ in 0..MAX_COMMANDS {
             stream.shelve((self.size)(&mut numbers));
