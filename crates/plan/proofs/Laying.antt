@@ -9,11 +9,11 @@ use lib.ListN.{length, take, getD, set, length-set}
 use lib.Seq.{take-all}
 use Rattle.packing.specs.declared.{Entry.Entry, PlanReason.PlanReason, PlanResult.PlanResult}
 use Rattle.packing.specs.Plans.{check}
-use Rattle.plan.specs.Rows.{planOf}
-use Rattle.plan.specs.Order.{limits}
+use Rattle.plan_rows.specs.Rows.{planOf}
+use Rattle.plan_rows.specs.Order.{limits}
 use Rattle.plan.specs.Columns.{rowsToLay, Wide, Laid, Answers}
-use Rattle.plan.proofs.Limits.{kept as limits-kept}
-use Rattle.plan.proofs.Whole.{check-refused}
+use Rattle.plan_rows.proofs.Limits.{kept as limits-kept}
+use Rattle.plan_rows.proofs.Whole.{check-refused}
 
 module _ (capacity k rows : ℕ) (sizes bins items : List ℕ) (kept : PlanResult) (tested : kept ≡ limits capacity k rows (length items)) where
   pub enough-places : kept ≡ PlanResult.Passed → Wide sizes bins → (rows ≤ length sizes) × (rows ≤ length bins)

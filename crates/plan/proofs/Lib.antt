@@ -1,9 +1,3 @@
--- The laws that the functions' proofs cite.
-pub mod Limits
-pub mod Faults
-pub mod Steps
-pub mod Zipped
-pub mod Going
-pub mod Whole
+-- The laws that the walk rests on.
 pub mod Laying
 pub mod Machine

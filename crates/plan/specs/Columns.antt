@@ -6,8 +6,8 @@ use lib.ListN.{length, take}
 use Rattle.packing.specs.declared.{Entry.Entry, PlanResult.PlanResult}
 use Rattle.packing.specs.Limits.{mostRows}
 use Rattle.packing.specs.Plans.{check}
-use Rattle.plan.specs.Rows.{planOf}
-use Rattle.plan.specs.Order.{limits}
+use Rattle.plan_rows.specs.Rows.{planOf}
+use Rattle.plan_rows.specs.Order.{limits}
 
 -- Nothing is laid where the limits' test refuses.
 abbrev pub rowsToLay : (rows : ℕ) → PlanResult → ℕ

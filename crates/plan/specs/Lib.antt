@@ -1,5 +1,2 @@
--- What the contracts of the plan checker cite, beside the model.
-pub mod Rows
-pub mod Order
-pub mod Loads
+-- What the contracts of the walk cite, beside the model and the core.
 pub mod Columns

@@ -39,7 +39,7 @@ fn held(sizes: &[u32], bins: &[u32]) -> HeldPlan {
 }
 
 fn both(sizes: &[u32], bins: &[u32], items: &[u32], capacity: u32, k: u32) {
-    let of_rows = plan::check_rows(sizes, bins, items, capacity, k);
+    let of_rows = plan_rows::check_rows(sizes, bins, items, capacity, k);
     show(of_rows);
     io::write_all(STDOUT_FILENO, b", ");
     let entries = held(sizes, bins);

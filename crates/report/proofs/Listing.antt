@@ -14,9 +14,9 @@ use Rattle.packing.specs.Run.{numbered, answerTo, next, outcomesFrom, answers, 
 use Rattle.packing.specs.Claims.{Whole}
 use Rattle.packing.proofs.Limits.{in-limits}
 use Rattle.packing.proofs.Accepted.{accepted-whole}
-use Rattle.stream.specs.Reading.{frontOf}
-use Rattle.stream.proofs.Scanning.{commands-none}
-use Rattle.stream.proofs.Following.{Rest, rest-of, never-faulty}
+use Rattle.reader.specs.Reading.{frontOf}
+use Rattle.reader.proofs.Scanning.{commands-none}
+use Rattle.reader.proofs.Following.{Rest, rest-of, never-faulty}
 use Rattle.report.specs.Lines.{lineOf, lines, lentRow}
 use Rattle.report.specs.Writing.{Room, Wrote, wordLine, Answered, Listed}
 use Rattle.report.proofs.Rows.{sets-append}

@@ -1,8 +1,7 @@
 // The lines of the answers to an accepted stream: its commands are walked once more, each beside its answer word.
 use crate::line;
 use packing::Command;
-use stream::reader;
-use stream::reader::Front;
+use reader::Front;
 ghost use Rattle.report.specs.Writing.{Room, Wrote, wordLine, Answered, Listed};
 
 // The line of one command, by its kind and its answer word.

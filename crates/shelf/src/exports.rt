@@ -5,7 +5,7 @@ ghost use mathlib.Core.Path.{_≡_};
 ghost use Rattle.packing.specs.Streams.{verdict};
 ghost use Rattle.packing.specs.Run.{result, rowAtExit};
 ghost use Rattle.packing.specs.Plans.{check};
-ghost use Rattle.plan.specs.Rows.{planOf};
+ghost use Rattle.plan_rows.specs.Rows.{planOf};
 ghost use Rattle.shelf.specs.Codes.{streamCode, StreamFits, planCode, PlanFits};
 
 fn stream_code(r: StreamResult) -> u64
@@ -65,6 +65,6 @@ pub extern "C" fn check_plan(
     ensures code { λ r. ⌜ r ≡ planCode (check capacity k (planOf (now (sizes .entry)) (now (bins .entry))) (now (items .entry))) ⌝ }
     ensures fits { λ _. ⌜ PlanFits (check capacity k (planOf (now (sizes .entry)) (now (bins .entry))) (now (items .entry))) ⌝ }
 {
-    let r = plan::check_rows(sizes, bins, items, capacity, k);
+    let r = plan_rows::check_rows(sizes, bins, items, capacity, k);
     plan_code(r)
 }

@@ -3,7 +3,7 @@ pub mod exports;
 
 use packing::StreamResult;
 pub use plan::check_plan;
-pub use plan::check_rows;
+pub use plan_rows::check_rows;
 ghost use mathlib.Core.Path.{_≡_};
 ghost use Rattle.packing.specs.Streams.{verdict};
 ghost use Rattle.packing.specs.Run.{result, rowAtExit};

@@ -22,10 +22,10 @@ use Rattle.engine.specs.Store.{held, Sound, Ready, Represents}
 use Rattle.engine.specs.Done.{Done}
 use Rattle.engine.proofs.Empty.{zeroCounters, empty-sound, empty-represents}
 use Rattle.stream.specs.declared.run.Totals.{Totals}
-use Rattle.stream.specs.Reading.{WholeFront, frontOf}
+use Rattle.reader.specs.Reading.{WholeFront, frontOf}
 use Rattle.stream.specs.Running.{Runnable, Ran}
-use Rattle.stream.proofs.Scanning.{commands-none}
-use Rattle.stream.proofs.Following.{Rest, rest-of, never-faulty}
+use Rattle.reader.proofs.Scanning.{commands-none}
+use Rattle.reader.proofs.Following.{Rest, rest-of, never-faulty}
 
 pub runnable-whole : (stream row : List ℕ) (o : Opening) (r : Runnable stream row o) → Whole stream row o (r .commands)
 runnable-whole stream row o r = accepted-whole row o (r .commands) stream (r .accepts)

@@ -1,9 +1,3 @@
--- The laws that the two passes rest on: the table, operands and fronts, the opening, the first pass; what follows a command; the verdict; the second pass.
-pub mod Lookup
-pub mod Operands
-pub mod Fronts
-pub mod Openings
-pub mod Scanning
-pub mod Following
+-- The laws that the call over both passes rests on: the verdict; the second pass.
 pub mod Verdicts
 pub mod Going

@@ -8,8 +8,8 @@ use borrow.Author.Tests.{lt-ltb, le-ltb}
 use Rattle.packing.specs.declared.{Opening.Opening, StreamReason.StreamReason}
 use Rattle.packing.specs.declared.StreamReason.the-variants.{TooFewWords}
 use Rattle.packing.specs.Streams.{Read, accepted, refused, read, lent, verdict}
-use Rattle.stream.specs.declared.reader.Summary.the-variants.{Accepted, Refused}
-use Rattle.stream.specs.Reading.{summary}
+use Rattle.reader.specs.declared.Summary.the-variants.{Accepted, Refused}
+use Rattle.reader.specs.Reading.{summary}
 use Rattle.stream.specs.Running.{Runnable}
 
 module _ (stream row : List ℕ) where

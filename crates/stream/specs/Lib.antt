@@ -1,3 +1,2 @@
--- What the two passes over a stream promise, in the model's terms.
-pub mod Reading
+-- What the second pass promises, in the model's terms.
 pub mod Running

@@ -1,10 +1,9 @@
 // Command streams: the reader finds the verdict of the whole stream, then the run answers its commands.
-pub mod reader;
 pub mod run;
 
-use crate::reader::Summary;
 use packing::StreamReason;
 use packing::StreamResult;
+use reader::Summary;
 ghost use mathlib.Core.Path.{_≡_};
 ghost use Rattle.packing.specs.Streams.{verdict};
 ghost use Rattle.packing.specs.Run.{result, rowAtExit};

@@ -1,6 +1,5 @@
 // The second pass: the commands of an accepted stream, answered one after another. What follows a command is handed on as a part of the
 // stream; the engine's store is local here and lent to each step.
-use crate::reader;
 use engine::Counters;
 use packing::Opening;
 ghost use Rattle.stream.specs.Running.{Runnable, Ran};

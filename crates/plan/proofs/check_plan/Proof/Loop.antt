@@ -54,7 +54,7 @@ use Rattle.packing.proofs.Entry as E
 use Rattle.packing.proofs.Entry.Laws as E′
 use Rattle.packing.proofs.PlanResult as D
 use Rattle.packing.proofs.PlanResult.Laws as D′
-use Rattle.plan.specs.Order.{limits}
+use Rattle.plan_rows.specs.Order.{limits}
 use Rattle.plan.specs.Columns.{rowsToLay, Answers}
 use Rattle.plan.proofs.Laying.{blank, LaidTo, laid-next, laid-within, laid-all}
 use Rattle.plan.proofs.check_columns as cols

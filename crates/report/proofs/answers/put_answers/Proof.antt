@@ -6,8 +6,8 @@ use native.Mathlib.Omega.{arith}
 use lib.ListN.{length}
 use borrow.Author.Needs.{needs}
 use Rattle.packing.specs.Streams.{whole}
-use Rattle.stream.specs.Reading.{frontOf, means}
-use Rattle.stream.proofs.Fronts.{whole-inside, part-is}
+use Rattle.reader.specs.Reading.{frontOf, means}
+use Rattle.reader.proofs.Fronts.{whole-inside, part-is}
 use Rattle.report.proofs.Listing.{Listing, answered-whole, listing-start, listing-faulty, listing-index, listing-room, listing-next, listing-end}
 use Rattle.report.proofs.answers.put_answers.Statement.{statement}
 use Rattle.report.proofs.answers.put_answers.Tie as tie

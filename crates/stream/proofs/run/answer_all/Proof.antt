@@ -8,8 +8,8 @@ use borrow.Author.Needs.{needs}
 use Rattle.packing.specs.Streams.{whole}
 use Rattle.packing.proofs.Limits.{in-limits}
 use Rattle.engine.proofs.Empty.{zeroCounters}
-use Rattle.stream.specs.Reading.{frontOf}
-use Rattle.stream.proofs.Fronts.{whole-inside, part-is}
+use Rattle.reader.specs.Reading.{frontOf}
+use Rattle.reader.proofs.Fronts.{whole-inside, part-is}
 use Rattle.stream.proofs.Going.{Going, runnable-whole, going-start, going-ready, going-few, going-whole, going-word, going-next, going-end}
 use Rattle.stream.proofs.run.answer_all.Statement.{statement}
 use Rattle.stream.proofs.run.answer_all.Tie as tie

@@ -1,0 +1,2 @@
+-- What the reader promises, in the model's terms.
+pub mod Reading
