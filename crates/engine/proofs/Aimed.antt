@@ -11,7 +11,7 @@ use lib.ListN.{getD}
 use Rattle.packing.specs.declared.Opening.{Opening}
 use Rattle.packing.specs.SizeClasses.{sizeClass, isA}
 use Rattle.packing.specs.Bins.{Bin, Packing, load, add, kind, holdsA}
-use Rattle.packing.specs.Placing.{classOf, firstFit, put, targetOf, target, takes, placed}
+use Rattle.packing.specs.Placing.{classOf, firstFit, put, target, takes, placed}
 use Rattle.packing.specs.Run.{item}
 use Rattle.tournament.specs.declared.Shape.{Shape}
 use Rattle.engine.specs.declared.Counters.{Counters}

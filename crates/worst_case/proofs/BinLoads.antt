@@ -4,16 +4,14 @@ use mathlib.Core.Path.{_≡_, refl}
 use mathlib.Core.Bool.{Bool, true, false}
 use mathlib.Core.List.{List, [], _∷_, List·Memᴰ, List·Memᴰ·head, List·Memᴰ·tail, List·Memᴰ·not-nil}
 use native.Mathlib.Omega.{arith}
-use borrow.Author.Tests.{leb-true}
 use lib.Dec.{eqb, eqb·zero-suc, eqb·suc-zero, eqb·suc-suc}
 use Rattle.packing.specs.declared.{Opening.Opening, Entry.Entry}
 use Rattle.packing.specs.Prelude.{if_then_else_, total}
 use Rattle.packing.specs.Bins.{Item, Bin, Packing, empty, load, add}
-use Rattle.packing.specs.Placing.{firstFit, put, target, classOf, permitted, hasSpace, takes, placed}
+use Rattle.packing.specs.Placing.{firstFit, put, target, classOf, takes, placed}
 use Rattle.packing.specs.Plans.{onBin}
 use Rattle.packing.specs.Run.{item}
-use Rattle.packing.proofs.Tests.{both-true}
-use Rattle.packing.proofs.Putting.{fresh, put-each}
+use Rattle.packing.proofs.Putting.{fresh}
 use Rattle.packing.proofs.Trace.{Trace, ends, places}
 use Rattle.packing.proofs.Reached.{trace-sound}
 

@@ -1,20 +1,18 @@
 -- The packing's own plan passes: it fits, and the checker is exact. Its sizes are in order by definition; that they, the numbers and the loads are within
 -- their limits is read off the trace.
-use Prim.Native.Nat.{ℕ, suc, _≤_}
+use Prim.Native.Nat.{ℕ, _≤_}
 use mathlib.Core.Path.{_≡_, refl}
 use mathlib.Core.Bool.{true}
-use mathlib.Core.List.{List, [], _∷_, _++_, List·Memᴰ, List·Memᴰ·not-nil, zipWith, flatten}
+use mathlib.Core.List.{List, List·Memᴰ, List·Memᴰ·not-nil}
 use native.Mathlib.Omega.{arith}
 use lib.ListN.{length}
-use Rattle.packing.specs.declared.{Opening.Opening, Command.Command, Outcome.Outcome, Entry.Entry}
-use Rattle.packing.specs.declared.Command.the-variants.{Shelve, Count}
-use Rattle.packing.specs.declared.Outcome.the-variants.{Placed, Counted, Refused}
+use Rattle.packing.specs.declared.{Opening.Opening, Command.Command, Entry.Entry}
 use Rattle.packing.specs.Limits.{openingGood, mostCommands}
 use Rattle.packing.specs.Bins.{Packing, empty}
 use Rattle.packing.specs.Streams.{accepted, verdict}
-use Rattle.packing.specs.Run.{placement, next, answerTo, outcomesFrom, placements}
+use Rattle.packing.specs.Run.{placements}
 use Rattle.packing.proofs.Tests.{each-cons}
-use Rattle.packing.proofs.Trace.{Trace, ends, places, placementsFrom, trace}
+use Rattle.packing.proofs.Trace.{Trace, ends, places, trace}
 use Rattle.packing.proofs.Numbers.{trace-opened, trace-in-stock, trace-from-one, placements-few, at-most-greatest}
 use Rattle.packing.proofs.Accepted.{accepted-whole}
 use Rattle.worst_case.specs.OwnPlan.{OwnPlan}
