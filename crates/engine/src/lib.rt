@@ -215,7 +215,8 @@ fn place_fitting(
     Step { answer, next }
 }
 
-// "Where a master goes": Refined First-Fit, one item. One test finds that it is neither empty nor too large; which of the two is asked only then.
+// "Where a master goes": Refined First-Fit, one item. One test tells that its size is neither 0 nor above the capacity; which of the two it is, is
+// asked only where the test fails.
 pub fn place(
     trees: &mut [u32; 5120],
     shape: Shape,

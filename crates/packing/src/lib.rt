@@ -141,7 +141,7 @@ fn above(limit: u32, size: u32, one: usize, other: usize) -> usize
 }
 
 // The number that stands for the size class of an item, for every 32-bit size and capacity. A size is above a part of the capacity exactly when
-// it is above the whole units of that part, and these fit 32 bits. (Three choices and no way apart: the processor can't foresee the next class.)
+// it is above the whole units of that part, and these fit 32 bits. (Three choices and no branch: no processor foresees the class of the next item.)
 pub fn classify(size: u32, capacity: u32, numbers: PerClass) -> usize
     ensures { λ r. ⌜ r ≡ numberOf numbers (sizeClass capacity size) ⌝ }
 {
