@@ -48,59 +48,64 @@ fn both(sizes: &[u32], bins: &[u32], items: &[u32], capacity: u32, k: u32) {
     io::write_all(STDOUT_FILENO, b"\n");
 }
 
+// The sizes of the list after Yao's Theorem 1, and the cartridges of a plan of it with k 7.
+const THEOREM_1: [u32; 21] = [
+    69632,
+    63488,
+    65024,
+    65792,
+    65408,
+    65504,
+    65552,
+    65528,
+    65534,
+    66560,
+    65600,
+    65540,
+    135168,
+    132096,
+    131328,
+    131136,
+    131088,
+    131076,
+    131073,
+    57344,
+    65537,
+];
+
+const SEVEN: [u32; 21] = [
+    1,
+    2,
+    3,
+    3,
+    4,
+    5,
+    5,
+    6,
+    7,
+    2,
+    4,
+    6,
+    1,
+    2,
+    3,
+    4,
+    5,
+    6,
+    7,
+    1,
+    7,
+];
+
 // The worked plans.
 fn worked() {
     both(&[30, 30], &[1, 1], &[30, 30], 60, 1);
     both(&[30, 31], &[1, 1], &[30, 31], 60, 1);
     both(&[], &[], &[], 60, 0);
-    let theorem1: [u32; 21] = [
-        69632,
-        63488,
-        65024,
-        65792,
-        65408,
-        65504,
-        65552,
-        65528,
-        65534,
-        66560,
-        65600,
-        65540,
-        135168,
-        132096,
-        131328,
-        131136,
-        131088,
-        131076,
-        131073,
-        57344,
-        65537,
-    ];
-    let seven: [u32; 21] = [
-        1,
-        2,
-        3,
-        3,
-        4,
-        5,
-        5,
-        6,
-        7,
-        2,
-        4,
-        6,
-        1,
-        2,
-        3,
-        4,
-        5,
-        6,
-        7,
-        1,
-        7,
-    ];
-    both(&theorem1, &seven, &theorem1, 262144, 7);
-    both(&theorem1, &seven, &theorem1, 262144, 6);
+    let sizes = THEOREM_1;
+    let bins = SEVEN;
+    both(&sizes, &bins, &sizes, 262144, 7);
+    both(&sizes, &bins, &sizes, 262144, 6);
 }
 
 // One case at each limit, and one past it.
