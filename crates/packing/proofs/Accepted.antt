@@ -4,12 +4,12 @@ use mathlib.Core.Path.{_≡_, refl, ap, subst}
 use mathlib.Core.Bool.{Bool, true, false, not}
 use mathlib.Core.List.{List, [], _∷_}
 use native.Mathlib.Omega.{arith}
-use borrow.Author.Tests.{ltb-false}
+use borrow.Author.Tests.{eqb-true, ltb-false}
 use lib.Dec.{eqb, ltb}
 use lib.ListN.{length, drop}
 use Rattle.packing.specs.Prelude.{if_then_else_, Opening, Command, StreamReason, NoOpening, CutShort, OutsideLimits, TooFewWords}
 use Rattle.packing.specs.Limits.{openingGood, mostCommands}
-use Rattle.packing.specs.Streams.{openingWidth, openingOf, Front, whole, faulty, front, widths, lookup, Read, accepted, refused, follow, commands, read, lent}
+use Rattle.packing.specs.Streams.{openingWidth, openingLength, openingOf, Front, whole, faulty, front, widths, lookup, Read, accepted, refused, follow, commands, read, lent}
 use Rattle.packing.specs.Claims.{Whole, AcceptedWhole}
 
 pub refused-accepted : {A : Type 0} {reason : StreamReason} {offset : ℕ} {o : Opening} {cs : List Command} → refused reason offset ≡ accepted o cs → A
@@ -49,23 +49,24 @@ module _ (row : List ℕ) (o : Opening) (cs : List Command) where
   read-whole : (stream : List ℕ) → length cs ≤ length row → read stream ≡ accepted o cs → Whole stream row o cs
   unfolding read
   read-whole [] l e = refused-accepted e
-  read-whole (b ∷ s) l e = go (eqb b 1) (ltb (length s) openingWidth) (openingGood (openingOf s)) refl refl e
+  read-whole (b ∷ s) l e = go (eqb b 1) (ltb (length s) openingWidth) (openingGood (openingOf s)) refl refl refl e
     where
-      go : (t u v : Bool) → ltb (length s) openingWidth ≡ u → openingGood (openingOf s) ≡ v
+      go : (t u v : Bool) → eqb b 1 ≡ t → ltb (length s) openingWidth ≡ u → openingGood (openingOf s) ≡ v
           → (if not t then refused NoOpening 0 else
           if u then refused CutShort 0 else
           if not v then refused OutsideLimits 0 else
-          commands (openingOf s) mostCommands (1 + openingWidth) (drop openingWidth s)) ≡ accepted o cs
+          commands (openingOf s) mostCommands openingLength (drop openingWidth s)) ≡ accepted o cs
           → Whole (b ∷ s) row o cs
-      go false u v p q h = refused-accepted h
-      go true true v p q h = refused-accepted h
-      go true false false p q h = refused-accepted h
-      go true false true p q h =
-          let all = all-passed (openingOf s) o mostCommands (1 + openingWidth) (drop openingWidth s) cs h in
+      go false u v f p q h = refused-accepted h
+      go true true v f p q h = refused-accepted h
+      go true false false f p q h = refused-accepted h
+      go true false true f p q h =
+          let all = all-passed (openingOf s) o mostCommands openingLength (drop openingWidth s) cs h in
           record {
             opening-good = subst (λ o. openingGood o ≡ true) (all .same-opening) q;
+            opening-first = ap (λ n. n ∷ []) (eqb-true b 1 f);
             opening-whole = omega (arith, ltb-false (length s) openingWidth p);
-            commands-whole = subst (λ x. commands x mostCommands 8 (drop openingWidth s) ≡ accepted o cs) (all .same-opening) h;
+            commands-whole = subst (λ x. commands x mostCommands openingLength (drop openingWidth s) ≡ accepted o cs) (all .same-opening) h;
             commands-few = all .few;
             row-enough = l;
           }

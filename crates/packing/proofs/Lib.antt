@@ -6,6 +6,8 @@ pub mod Trace
 pub mod Putting
 pub mod Reached
 pub mod Numbers
+pub mod Holding
+pub mod Given
 pub mod Prefixes
 pub mod LeftOut
 pub mod Stock

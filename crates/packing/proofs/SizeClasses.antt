@@ -1,4 +1,4 @@
--- Size classes: exactly one case applies to a size, its inequalities hold, and the whole units of the parts tell it too. Assumes nothing.
+-- Size classes: exactly one case applies to a size, its inequalities hold, and the whole units of the parts tell it too.
 use Prim.Native.Nat.{ℕ, _+_, _*_, _/_, _%_, _≤_, _<_}
 use mathlib.Core.Path.{_≡_, refl, sym, _∙_}
 use mathlib.Core.Bool.{Bool, true, false}

@@ -1,5 +1,5 @@
 -- The statements of ../specs/Claims.antt, proved.
-use Prim.Native.Nat.{ℕ}
+use Prim.Native.Nat.{ℕ, zero, suc}
 use mathlib.Core.Path.{_≡_, ap, _∙_}
 use mathlib.Core.List.{List, [], _∷_, List·Memᴰ·not-nil}
 use native.Mathlib.Omega.{arith}
@@ -9,15 +9,17 @@ use Rattle.packing.specs.Bins.{Packing, empty, opened}
 use Rattle.packing.specs.Placing.{after}
 use Rattle.packing.specs.Run.{item, packing, placements}
 use Rattle.packing.specs.Compared.{numberOpened}
-use Rattle.packing.specs.Claims.{NeverOverfull, LoadsAddUp, Prefix, RefusedLeftOut, AnswersInRange, Counts, RefusedChangesNothing}
+use Rattle.packing.specs.Claims.{HoldsAnswered, NeverOverfull, LoadsAddUp, Prefix, RefusedLeftOut, AnswersInRange, Counts, RefusedChangesNothing}
 use Rattle.packing.proofs.Trace.{trace}
 use Rattle.packing.proofs.Reached.{trace-sound}
 use Rattle.packing.proofs.Numbers.{trace-opened, trace-weight, trace-in-stock, trace-from-one, at-most-greatest}
+use Rattle.packing.proofs.Holding.{trace-items, trace-shown}
 use Rattle.packing.proofs.Prefixes.{prefix-from, count-from}
 use Rattle.packing.proofs.LeftOut.{resent-packing, resent-bins}
 pub use Rattle.packing.proofs.SizeClasses.{class-bounds, bounds-class}
 pub use Rattle.packing.proofs.Stock.{spent-exactly}
 pub use Rattle.packing.proofs.Accepted.{accepted-whole}
+pub use Rattle.packing.proofs.Given.{stream-gives-back, plan-gives-back, words-give-back}
 
 -- The number of bins is the greatest number answered.
 pub opened-is : (o : Opening) (cs : List Command) → opened (packing o cs) ≡ numberOpened o cs
@@ -25,7 +27,15 @@ opened-is o cs = omega (arith, trace-opened o (trace o cs))
 
 module _ (o : Opening) (cs : List Command) where
   pub never-overfull : NeverOverfull o cs
-  never-overfull j = trace-sound o (trace o (take j cs)) (λ b m. absurd (List·Memᴰ·not-nil m))
+  never-overfull =
+      record {
+        shown = λ j n. trace-shown o n (trace o (take j cs));
+        bins = λ j. trace-sound o (trace o (take j cs)) (λ b m. absurd (List·Memᴰ·not-nil m));
+      }
+
+  pub holds-answered : HoldsAnswered o cs
+  holds-answered j zero = trace-items o 0 (trace o (take j cs))
+  holds-answered j (suc n) = trace-items o (suc n) (trace o (take j cs))
 
   pub loads-add-up : LoadsAddUp o cs
   unfolding total

@@ -1,5 +1,5 @@
 -- Items, bins and packings: document 01's masters, cartridges and shelf.
-use Rattle.packing.specs.Prelude.{ℕ, Bool, List, [], _∷_, map, length, total, any, Opening, SizeClass}
+use Rattle.packing.specs.Prelude.{ℕ, zero, suc, Bool, List, [], _∷_, map, length, getD, total, any, Opening, SizeClass}
 use Rattle.packing.specs.SizeClasses.{sizeClass, isA}
 
 -- A master has a whole number of units.
@@ -25,6 +25,11 @@ opened p = length (p .bins)
 
 abbrev pub load : Bin → ℕ
 load b = total (map (λ i. i .size) (b .items))
+
+-- The items of bin n, the last first; none where no bin has this number.
+abbrev pub itemsOf : (n : ℕ) → Packing → List Item
+itemsOf zero p = []
+itemsOf (suc before) p = getD (map (λ b. b .items) (p .bins)) before []
 
 abbrev pub add : Item → Bin → Bin
 add i b = record { class = b .class; items = i ∷ b .items }

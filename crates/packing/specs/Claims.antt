@@ -1,13 +1,14 @@
 -- What is promised of the model, as statements; ../proofs shows each of every opening and every list of commands. Demand 3 and the plan of a packing's
 -- own answers are stated in the crate worst_case.
-use Rattle.packing.specs.Prelude.{ℕ, _+_, _*_, _≤_, _<_, _≡_, _↔_, Bool, true, _||_, List, [], _∷_, map, length, take, drop, List·Memᴰ, total, _=?_}
-use Rattle.packing.specs.Prelude.{Opening, SizeClass, A, B1, B2, X, Command, Shelve, Count, Counted, Refused, StockSpent, Entry, StreamResult}
-use Rattle.packing.specs.Bins.{Item, Bin, Packing, opened, load, kind}
+use Rattle.packing.specs.Prelude.{ℕ, _+_, _*_, _≤_, _<_, _≡_, _↔_, Bool, true, _||_, List, [], _∷_, map, zipWith, reverse, length, take, drop, List·Memᴰ, total, _=?_}
+use Rattle.packing.specs.Prelude.{Opening, SizeClass, A, B1, B2, X, Command, Shelve, Count, Counted, Refused, StockSpent, Entry, StreamResult, PlanResult}
+use Rattle.packing.specs.Refusals.{word, outcomeOf, streamGives, planGives}
+use Rattle.packing.specs.Bins.{Item, Bin, Packing, opened, load, itemsOf, kind}
 use Rattle.packing.specs.Placing.{permitted, target, outcome}
 use Rattle.packing.specs.Limits.{openingGood, mostCommands}
-use Rattle.packing.specs.Streams.{accepted, commands, verdict}
+use Rattle.packing.specs.Streams.{openingLength, behindOpening, accepted, commands, verdict}
 use Rattle.packing.specs.Run.{item, next, packing, outcomes, answers, placements, result}
-use Rattle.packing.specs.Compared.{acceptedSizes, numberOpened}
+use Rattle.packing.specs.Compared.{acceptedSizes, numberOpened, sizesIn}
 
 -- The inequalities of each size class: the tests before it failed.
 abbrev pub Bounds : (c s : ℕ) → SizeClass → Type 0
@@ -30,9 +31,15 @@ pub record SoundBin (o : Opening) (b : Bin) : Type 0 where
   pub in-class : (i : Item) → List·Memᴰ i (b .items) → belongs (kind o i) (b .class) ≡ true
 
 module _ (o : Opening) (cs : List Command) where
-  -- After each command no load exceeds the capacity; every bin has its class and at least one item.
-  abbrev pub NeverOverfull : Type 0
-  NeverOverfull = (j : ℕ) (b : Bin) → List·Memᴰ b (packing o (take j cs) .bins) → SoundBin o b
+  -- After each command bin n holds the items answered n, in the stream's order, and no others. (The last item of a bin stands first.)
+  abbrev pub HoldsAnswered : Type 0
+  HoldsAnswered = (j n : ℕ) → map (λ i. i .size) (itemsOf n (packing o (take j cs))) ≡ reverse (sizesIn n (placements o (take j cs)))
+
+  pub record NeverOverfull : Type 0 where
+    -- After each command the items answered n are together no larger than the capacity, whatever the number n.
+    pub shown : (j n : ℕ) → total (sizesIn n (placements o (take j cs))) ≤ o .capacity
+    -- Nor does the load of a bin exceed it; every bin has its class and at least one item.
+    pub bins : (j : ℕ) (b : Bin) → List·Memᴰ b (packing o (take j cs) .bins) → SoundBin o b
 
   -- The loads always add up to the sizes of the accepted items.
   abbrev pub LoadsAddUp : Type 0
@@ -59,12 +66,24 @@ module _ (o : Opening) (cs : List Command) where
     pub answered : (j : ℕ) (later : List Command) → drop j cs ≡ Count ∷ later → take 1 (drop j (outcomes o cs)) ≡ Counted (numberOpened o (take j cs)) ∷ []
     pub returned : result (accepted o cs) ≡ StreamResult.Accepted (length (acceptedSizes o cs)) (numberOpened o cs)
 
+-- Document 01's numbers give a result back: no two results share them.
+abbrev pub StreamGivesBack : Type 0
+StreamGivesBack = (r s : StreamResult) → streamGives r ≡ streamGives s → r ≡ s
+
+abbrev pub PlanGivesBack : Type 0
+PlanGivesBack = (r s : PlanResult) → planGives r ≡ planGives s → r ≡ s
+
+-- So do the words, beside their commands.
+abbrev pub WordsGiveBack : Opening → List Command → Type 0
+WordsGiveBack o cs = openingGood o ≡ true → zipWith outcomeOf cs (map word (outcomes o cs)) ≡ outcomes o cs
+
 -- What no stream refusal leaves of a stream and its row: an opening within its limits, a whole command at every place after it, and no more
 -- commands than 4,096 and than the row has words.
 pub record Whole (stream row : List ℕ) (o : Opening) (cs : List Command) : Type 0 where
   pub opening-good : openingGood o ≡ true
-  pub opening-whole : 8 ≤ length stream
-  pub commands-whole : commands o mostCommands 8 (drop 8 stream) ≡ accepted o cs
+  pub opening-first : take 1 stream ≡ 0x01 ∷ []
+  pub opening-whole : openingLength ≤ length stream
+  pub commands-whole : commands o mostCommands openingLength (behindOpening stream) ≡ accepted o cs
   pub commands-few : length cs ≤ mostCommands
   pub row-enough : length cs ≤ length row
 

@@ -1,5 +1,5 @@
 -- "What demand 3 compares", after a list of commands: the accepted items and the number opened on one side, the bins that a plan uses on the other.
-use Rattle.packing.specs.Prelude.{ℕ, _+_, List, [], _∷_, map, greatest, any, _=?_, if_then_else_, Opening, Command, Entry}
+use Rattle.packing.specs.Prelude.{ℕ, _+_, List, [], _∷_, map, greatest, any, keep, _=?_, if_then_else_, Opening, Command, Entry}
 use Rattle.packing.specs.Run.{placements}
 
 module _ (o : Opening) (cs : List Command) where
@@ -10,6 +10,10 @@ module _ (o : Opening) (cs : List Command) where
   -- "The number opened": the greatest bin number answered to these items, or 0 if there are none.
   abbrev pub numberOpened : ℕ
   numberOpened = greatest (map (λ e. e .bin) (placements o cs))
+
+-- The sizes of the entries with bin number n, in their order.
+abbrev pub sizesIn : (n : ℕ) → List Entry → List ℕ
+sizesIn n es = map (λ e. e .size) (keep (λ e. e .bin =? n) es)
 
 -- "A plan uses the cartridges whose numbers stand in its entries, each counted once."
 unfoldable pub used : List Entry → ℕ

@@ -1,12 +1,12 @@
--- The words that the model is written in: the library's, the types shared with the code, tests on numbers, and three folds over a list.
-pub use Prim.Native.Nat.{ℕ, zero, suc, _+_, _*_, _%_, _≤_, _<_, min, max}
+-- The words that the model is written in: the library's, the types shared with the code, tests on numbers, and four functions on lists.
+pub use Prim.Native.Nat.{ℕ, zero, suc, _+_, _-_, _*_, _%_, _≤_, _<_, min, max}
 pub use mathlib.Core.Path.{_≡_, refl}
 pub use mathlib.Core.Logic.{_↔_}
 pub use mathlib.Core.Bool.{Bool, true, false, not, _&&_, _||_}
 pub use mathlib.Core.Option.{Option, none, some}
-pub use mathlib.Core.List.{List, [], _∷_, _++_, map, foldl, List·Memᴰ}
+pub use mathlib.Core.List.{List, [], _∷_, _++_, map, foldl, reverse, List·Memᴰ}
 unfoldable pub use mathlib.Core.List.{zipWith, flatten}
-pub use lib.ListN.{length, take, drop, replicate}
+pub use lib.ListN.{length, take, drop, replicate, getD}
 pub use Rattle.packing.specs.declared.{Opening.Opening, SizeClass.SizeClass, PerClass.PerClass, Command.Command, WidthRow.WidthRow, Width.Width}
 pub use Rattle.packing.specs.declared.{ItemReason.ItemReason, Outcome.Outcome, Answer.Answer, StreamReason.StreamReason, StreamResult.StreamResult}
 pub use Rattle.packing.specs.declared.{Entry.Entry, PlanReason.PlanReason, PlanResult.PlanResult}
@@ -48,3 +48,8 @@ greatest (n ∷ ns) = max n (greatest ns)
 unfoldable pub any : {A : Type 0} → (A → Bool) → List A → Bool
 any test [] = false
 any test (a ∷ rest) = test a || any test rest
+
+-- the members that pass
+unfoldable pub keep : {A : Type 0} → (A → Bool) → List A → List A
+keep test [] = []
+keep test (a ∷ rest) = if test a then a ∷ keep test rest else keep test rest

@@ -1,5 +1,6 @@
--- "What a refusal gives": the number of each refusal, and the answer word of an outcome.
-use Rattle.packing.specs.Prelude.{ℕ, _+_, Outcome, Placed, Counted, Refused, ItemReason, SizeZero, AboveCapacity, StockSpent}
+-- "What a refusal gives": the number of each refusal, the answer word of an outcome, and what a result gives in document 01's numbers.
+use Rattle.packing.specs.Prelude.{ℕ, _+_, _-_, List, [], _∷_, _=?_, _<?_, if_then_else_, Command, Shelve, Count, StreamResult, PlanResult}
+use Rattle.packing.specs.Prelude.{Outcome, Placed, Counted, Refused, ItemReason, SizeZero, AboveCapacity, StockSpent}
 use Rattle.packing.specs.Prelude.{StreamReason, NoOpening, UnknownOpcode, CutShort, SecondOpening, OutsideLimits, TooManyCommands, TooFewWords}
 use Rattle.packing.specs.Prelude.{PlanReason, CapacityOutside, TooLong, SizeOutside, BinOutside, Overfull, OtherItems}
 
@@ -30,3 +31,27 @@ abbrev pub word : Outcome → ℕ
 word (Placed bin) = bin
 word (Counted opened) = opened
 word (Refused reason) = 32_768 + itemNumber reason
+
+-- The refusal of an item that has this number.
+abbrev pub itemReason : (number : ℕ) → ItemReason
+itemReason n = if n =? 8 then SizeZero else if n =? 9 then AboveCapacity else StockSpent
+
+-- The outcome that a word stands for. The word alone does not tell a bin's number from a count: the command does.
+abbrev pub outcomeOf : Command → (word : ℕ) → Outcome
+outcomeOf (Shelve size) w = if w <? 32_768 then Placed w else Refused (itemReason (w - 32_768))
+outcomeOf Count w = Counted w
+
+-- What a call returns, in document 01's numbers: its figures; or the number of a refusal, with its offset or its place.
+pub data Returned : Type 0 where
+  figures : List ℕ → Returned
+  refusal : (number place : ℕ) → Returned
+
+-- "An accepted stream returns the masters accepted and the cartridges opened."
+abbrev pub streamGives : StreamResult → Returned
+streamGives (StreamResult.Accepted items opened) = figures (items ∷ opened ∷ [])
+streamGives (StreamResult.Refused reason offset) = refusal (streamNumber reason) offset
+
+-- "The answer is passed alone, without number or place."
+abbrev pub planGives : PlanResult → Returned
+planGives PlanResult.Passed = figures []
+planGives (PlanResult.Refused reason place) = refusal (planNumber reason) place

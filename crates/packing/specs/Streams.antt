@@ -8,6 +8,14 @@ use Rattle.packing.specs.Limits.{openingGood, mostCommands}
 abbrev pub openingWidth : ℕ
 openingWidth = 4 + 2 + 1
 
+-- Its opcode and its operands.
+abbrev pub openingLength : ℕ
+openingLength = 1 + openingWidth
+
+-- The commands begin behind the opening.
+abbrev pub behindOpening : (stream : List ℕ) → List ℕ
+behindOpening stream = drop openingLength stream
+
 -- "One table gives each command byte its operand width."
 unfoldable pub widths : List WidthRow
 widths =
@@ -70,7 +78,7 @@ read (b ∷ s) =
     if not (b =? 0x01) then refused NoOpening 0 else
     if length s <? openingWidth then refused CutShort 0 else
     if not (openingGood (openingOf s)) then refused OutsideLimits 0 else
-    commands (openingOf s) mostCommands (1 + openingWidth) (drop openingWidth s)
+    commands (openingOf s) mostCommands openingLength (drop openingWidth s)
 
 -- Refusal 7 comes last of the stream's: fewer answer words than commands, at the length of the stream.
 abbrev pub lent : (words bytes : ℕ) → Read → Read

@@ -5,7 +5,7 @@ ghost use mathlib.Core.Path.{_≡_};
 ghost use Rattle.packing.specs.Prelude.{_<?_, if_then_else_};
 ghost use Rattle.packing.specs.Limits.{within, openingGood};
 ghost use Rattle.packing.specs.SizeClasses.{sizeClass, numberOf};
-ghost use Rattle.packing.specs.Refusals.{itemNumber, streamNumber, planNumber, word};
+ghost use Rattle.packing.specs.Refusals.{itemNumber, streamNumber, planNumber, word, itemReason, outcomeOf};
 
 // "Size classes": A above a half of the capacity, B1 above two fifths, B2 above a third, X the rest.
 pub enum SizeClass {
@@ -207,6 +207,33 @@ pub fn word_of(outcome: Outcome) -> u16
         Outcome::Refused(reason) => {
             let number = item_number(reason);
             32768 + number
+        }
+    }
+}
+
+// The refusal of an item that has this number.
+fn item_reason(number: u16) -> ItemReason
+    ensures { λ r. ⌜ r ≡ itemReason number ⌝ }
+{
+    match number {
+        8 => ItemReason::SizeZero,
+        9 => ItemReason::AboveCapacity,
+        _ => ItemReason::StockSpent,
+    }
+}
+
+// The outcome that an answer word stands for: the command tells a bin's number from a count.
+pub fn outcome_of(command: Command, word: u16) -> Outcome
+    ensures { λ r. ⌜ r ≡ outcomeOf command word ⌝ }
+{
+    match command {
+        Command::Count => Outcome::Counted(word),
+        Command::Shelve(_) => {
+            if word < 32768 {
+                return Outcome::Placed(word);
+            }
+            let reason = item_reason(word - 32768);
+            Outcome::Refused(reason)
         }
     }
 }

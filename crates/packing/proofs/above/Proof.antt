@@ -1,4 +1,4 @@
--- `above` meets its contract. Assumes nothing.
+-- `above` meets its contract.
 use borrow.Author.Tests.{lt-ltb, le-ltb}
 use Rattle.packing.proofs.above.Statement.{statement}
 use Rattle.packing.proofs.above.Tie as tie

@@ -1,4 +1,4 @@
--- `classify` meets its contract: the three choices are the class by the whole units of the parts. Assumes nothing.
+-- `classify` meets its contract: the three choices are the class by the whole units of the parts.
 use borrow.Author.Needs.{needs}
 use Rattle.packing.proofs.SizeClasses.{by-parts}
 use Rattle.packing.proofs.classify.Statement.{statement}

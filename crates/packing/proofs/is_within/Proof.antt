@@ -1,4 +1,4 @@
--- `is_within` meets its contract. Assumes nothing.
+-- `is_within` meets its contract.
 use borrow.Author.Tests.{le-leb, lt-leb}
 use Rattle.packing.proofs.is_within.Statement.{statement}
 use Rattle.packing.proofs.is_within.Tie as tie

@@ -1,4 +1,4 @@
--- `opening_good` meets its contract: the three tests are those of the limits. Assumes nothing.
+-- `opening_good` meets its contract: the three tests are those of the limits.
 use mathlib.Core.Path.{sym, _∙_}
 use borrow.Author.Needs.{needs}
 use Rattle.packing.proofs.opening_good.Statement.{statement}

@@ -1,4 +1,4 @@
--- `word_of` meets its contract: a refusal's number is at most 10, so the sum fits 16 bits. Assumes nothing.
+-- `word_of` meets its contract: a refusal's number is at most 10, so the sum fits 16 bits.
 use mathlib.Core.Path.{sym, ap, _∙_}
 use Prim.Native.Nat.{_+_, _≤_}
 use native.Mathlib.Omega.{arith}
