@@ -1,5 +1,5 @@
 -- An item that is neither refused with 8 nor with 9: the tree that is searched, the bin that it joins in the model, and the trees once that bin is shown
--- anew. Assumes nothing.
+-- anew.
 use mathlib.Core.Path.{_≡_, sym, ap, _∙_}
 use mathlib.Core.Logic.{⊎-elim}
 use mathlib.Core.Bool.{Bool, false, _&&_, _||_}

@@ -1,4 +1,4 @@
--- The tree that is searched has the model's target, and the phase is the model's count of B2 items modulo m. Assumes nothing.
+-- The tree that is searched has the model's target, and the phase is the model's count of B2 items modulo m.
 use mathlib.Core.Path.{_≡_, refl, sym, ap, _∙_}
 use mathlib.Core.Logic.{⊎-elim}
 use Prim.Native.Nat.{ℕ, zero, suc, _+_, _%_, _≤_, _<_}
@@ -8,22 +8,12 @@ use native.Mathlib.Decide.{ℕ-discrete}
 use native.Mathlib.Omega.{arith}
 use lib.Dec.{eqb}
 use borrow.Author.Tests.{eq-eqb, ne-eqb}
-use Rattle.packing.specs.declared.{Opening.Opening, SizeClass.SizeClass, PerClass.PerClass}
+use Rattle.packing.specs.declared.{Opening.Opening, SizeClass.SizeClass}
 use Rattle.packing.specs.declared.SizeClass.the-variants.{A, B1, B2, X}
-use Rattle.packing.specs.SizeClasses.{countB2, numberOf}
+use Rattle.packing.specs.SizeClasses.{countB2}
 use Rattle.packing.specs.Placing.{classOf, targetOf}
 use Rattle.engine.specs.Aims.{aim, home, treeFor, phaseAfter}
 use Rattle.engine.proofs.Tests.{either}
-
--- The trees by class, with this one for a B2.
-abbrev pub treesWith : (b2 : ℕ) → PerClass
-treesWith b2 = record { a = 1; b1 = 2; b2 = b2; x = 4 }
-
-pub tree-of-class : (phase m : ℕ) (k : SizeClass) → numberOf (treesWith (treeFor B2 phase m)) k ≡ treeFor k phase m
-tree-of-class phase m A = refl
-tree-of-class phase m B1 = refl
-tree-of-class phase m B2 = refl
-tree-of-class phase m X = refl
 
 -- The item is an m-th B2, or it is not.
 mth : (before phase m : ℕ) → phase ≡ before % m → phase + 1 ≡ m → suc before % m ≡ 0

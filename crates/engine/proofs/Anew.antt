@@ -1,4 +1,4 @@
--- The search found no place: the item is refused with 10, or a bin is opened for it. Assumes nothing.
+-- The search found no place: the item is refused with 10, or a bin is opened for it.
 use mathlib.Core.Path.{_≡_, sym, ap, _∙_}
 use mathlib.Core.Bool.{_&&_, _||_}
 use mathlib.Core.List.{List, []}

@@ -1,4 +1,4 @@
--- The store at the opening: a row of zeros and counters at 0 are sound and represent the empty packing. Assumes nothing.
+-- The store at the opening: a row of zeros and counters at 0 are sound and represent the empty packing.
 use mathlib.Core.Path.{_≡_, refl, sym, _∙_}
 use mathlib.Core.Bool.{true}
 use Prim.Native.Nat.{ℕ, zero, suc, _+_, _*_}

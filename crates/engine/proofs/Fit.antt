@@ -1,4 +1,4 @@
--- First fit over the bins, by what each bin shows, and the bins once an item is put. Assumes nothing.
+-- First fit over the bins, by what each bin shows, and the bins once an item is put.
 use mathlib.Core.Path.{_≡_, refl, ap}
 use mathlib.Core.Logic.{⊎-elim}
 use mathlib.Core.Bool.{Bool, true}

@@ -1,4 +1,4 @@
--- A store in one tree of five leaves the others as they were. Assumes nothing.
+-- A store in one tree of five leaves the others as they were.
 use mathlib.Core.Path.{_≡_, sym, ap, _∙_}
 use mathlib.Core.Bool.{true, false, or-true}
 use mathlib.Core.List.{List}

@@ -1,4 +1,4 @@
--- An item joins the bin at the place that the search found. Assumes nothing.
+-- An item joins the bin at the place that the search found.
 use mathlib.Core.Path.{_≡_, sym, ap, _∙_}
 use mathlib.Core.Bool.{Bool, true, _&&_, _||_}
 use mathlib.Core.List.{List}

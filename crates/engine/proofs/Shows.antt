@@ -1,4 +1,4 @@
--- What a bin shows, before an item joins it and after. Assumes nothing.
+-- What a bin shows, before an item joins it and after.
 use mathlib.Core.Path.{_≡_, refl, sym, ap, _∙_}
 use mathlib.Core.Logic.{⊎-elim}
 use mathlib.Core.Bool.{Bool, true, false, _&&_, _||_, and-true, and-false}

@@ -1,4 +1,4 @@
--- An item has a spot, or the stock is spent: the ways out of a step, by what first fit finds. Assumes nothing.
+-- An item has a spot, or the stock is spent: the ways out of a step, by what first fit finds.
 use mathlib.Core.Path.{_≡_, sym}
 use mathlib.Core.Logic.{_⊎_, inl, inr, ⊎-elim}
 use mathlib.Core.List.{List}

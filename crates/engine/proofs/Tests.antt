@@ -1,4 +1,4 @@
--- Tests joined by and and or. Assumes nothing.
+-- Tests joined by and and or.
 use mathlib.Core.Path.{_≡_, refl}
 use mathlib.Core.Logic.{_⊎_, inl, inr}
 use mathlib.Core.Bool.{Bool, true, false, _&&_, _||_}

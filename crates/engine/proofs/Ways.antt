@@ -1,4 +1,4 @@
--- The ways out of a step, each a law over what the code knows there. Assumes nothing.
+-- The ways out of a step, each a law over what the code knows there.
 use mathlib.Core.Path.{_≡_, refl, sym, ap, _∙_}
 use mathlib.Core.List.{List}
 use Prim.Native.Nat.{ℕ, _+_, _-_, _*_, _≤_, _<_}

@@ -1,7 +1,7 @@
 -- The five trees: which bins each shows, which one is searched for an item, and what accepting an item counts.
 use Prim.Native.Nat.{ℕ, zero, suc, _+_}
-use Rattle.packing.specs.declared.SizeClass.{SizeClass}
-use Rattle.packing.specs.declared.SizeClass.the-variants.{A, B1, B2, X}
+use Rattle.packing.specs.declared.{SizeClass.SizeClass, PerClass.PerClass}
+use Rattle.packing.specs.SizeClasses.{numberOf}
 use Rattle.packing.specs.Prelude.{_=?_, if_then_else_}
 use Rattle.packing.specs.Placing.{Target, toClass, besideA}
 use Rattle.engine.specs.declared.Counters.{Counters}
@@ -16,12 +16,17 @@ abbrev pub home : (tree : ℕ) → ℕ
 home zero = 1
 home (suc n) = suc n
 
--- The tree that is searched for an item; the phase is the count of B2 items accepted, modulo m.
+-- The tree that is searched for the next B2; the phase is the count of B2 items accepted, modulo m.
+abbrev pub b2Tree : (phase m : ℕ) → ℕ
+b2Tree phase m = if phase + 1 =? m then 0 else 3
+
+-- The trees by size class, with this one for a B2.
+abbrev pub treesWith : (b2 : ℕ) → PerClass
+treesWith b2 = record { a = 1; b1 = 2; b2 = b2; x = 4 }
+
+-- The tree that is searched for an item.
 abbrev pub treeFor : SizeClass → (phase m : ℕ) → ℕ
-treeFor A phase m = 1
-treeFor B1 phase m = 2
-treeFor B2 phase m = if phase + 1 =? m then 0 else 3
-treeFor X phase m = 4
+treeFor k phase m = numberOf (treesWith (b2Tree phase m)) k
 
 -- The phase once an item is accepted: only B2 items are searched for in the trees 0 and 3, and they count.
 abbrev pub phaseAfter : (tree phase : ℕ) → ℕ

@@ -10,11 +10,10 @@ use tournament::Found;
 use tournament::Shape;
 ghost use mathlib.Core.Path.{_≡_};
 ghost use Prim.Native.Nat.{_≤_, _<_};
-ghost use Rattle.packing.specs.declared.SizeClass.the-variants.{B2};
 ghost use Rattle.packing.specs.declared.Command.the-variants.{Shelve};
 ghost use Rattle.packing.specs.declared.Outcome.the-variants.{Refused};
 ghost use Rattle.packing.specs.SizeClasses.{sizeClass};
-ghost use Rattle.engine.specs.Aims.{home, treeFor, phaseAfter, accepting};
+ghost use Rattle.engine.specs.Aims.{home, b2Tree, treeFor, phaseAfter, accepting};
 ghost use Rattle.engine.specs.Store.{Forest, held, Ready};
 ghost use Rattle.engine.specs.Spots.{spotFor};
 ghost use Rattle.engine.specs.Shown.{Shown};
@@ -52,7 +51,7 @@ enum Room {
 // The tree that is searched for the next B2: every m-th goes beside an A.
 fn b2_tree(phase: u16, m: u8) -> usize
     requires { ⌜ phase < m ⌝ }
-    ensures { λ r. ⌜ r ≡ treeFor B2 phase m ⌝ }
+    ensures { λ r. ⌜ r ≡ b2Tree phase m ⌝ }
 {
     let last = m as u16 - 1;
     if phase == last { 0 } else { 3 }

@@ -1,12 +1,12 @@
--- "What follows a command is read as a stream of its own": in an accepted stream every command is whole, and what follows it is accepted. Assumes nothing.
+-- "What follows a command is read as a stream of its own": in an accepted stream every command is whole, and what follows it is accepted.
 use mathlib.Core.Path.{_≡_, refl, sym, _∙_}
 use mathlib.Core.List.{List, _∷_}
 use Prim.Native.Nat.{ℕ, zero, suc, _+_, _≤_}
 use lib.ListN.{length, drop}
 use Rattle.packing.specs.declared.{Opening.Opening, Command.Command, StreamReason.StreamReason}
-use Rattle.packing.specs.Streams.{Read, accepted, refused, follow, whole, faulty, commands}
+use Rattle.packing.specs.Streams.{Front, Read, accepted, refused, follow, whole, faulty, commands}
 use Rattle.packing.proofs.Accepted.{refused-accepted}
-use Rattle.reader.specs.Reading.{frontOf}
+use Rattle.reader.specs.Reading.{WholeFront, frontOf}
 use Rattle.reader.proofs.Scanning.{commands-whole, commands-faulty, commands-full}
 
 -- What a command leaves to be read of the commands cs.
@@ -25,6 +25,14 @@ module _ (o : Opening) (offset : ℕ) (s : List ℕ) (cs : List Command) (some :
       go (accepted o′ later) p q = record { left′ = left; later = later; all = cc; reads = cc }
       go (refused reason n) p q = refused-accepted q
 
-  pub never-faulty : (left : ℕ) (reason : StreamReason) {A : Type 0} → frontOf s ≡ faulty reason → commands o left offset s ≡ accepted o cs → A
+  never-faulty : (left : ℕ) (reason : StreamReason) {A : Type 0} → frontOf s ≡ faulty reason → commands o left offset s ≡ accepted o cs → A
   never-faulty zero reason f e = refused-accepted (sym (commands-full o offset s some) ∙ e)
   never-faulty (suc left) reason f e = refused-accepted (sym (commands-faulty o left offset s reason some f) ∙ e)
+
+  -- So a whole command stands at the front.
+  pub front-whole-of : (left : ℕ) → commands o left offset s ≡ accepted o cs → WholeFront s
+  front-whole-of left e = go (frontOf s) refl
+    where
+      go : (f : Front) → frontOf s ≡ f → WholeFront s
+      go (whole c w) q = record { command = c; width = w; front = q }
+      go (faulty reason) q = never-faulty left reason q e

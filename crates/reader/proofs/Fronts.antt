@@ -1,5 +1,5 @@
--- The command at the front of a stream, by the tests that the reader makes. Assumes nothing.
-use mathlib.Core.Path.{_≡_, refl, sym, ap, subst, _∙_}
+-- The command at the front of a stream, by the tests that the reader makes.
+use mathlib.Core.Path.{_≡_, refl, ap, subst, _∙_}
 use mathlib.Core.Bool.{Bool, true, false}
 use mathlib.Core.List.{List, [], _∷_}
 use Prim.Native.Nat.{ℕ, _+_, _-_, _≤_, _<_}
@@ -12,8 +12,8 @@ use Rattle.packing.specs.declared.{Command.Command, Width.Width}
 use Rattle.packing.specs.declared.Width.the-variants.{Known, Unknown}
 use Rattle.packing.specs.declared.StreamReason.the-variants.{UnknownOpcode, CutShort, SecondOpening}
 use Rattle.packing.specs.Prelude.{if_then_else_}
-use Rattle.packing.specs.Streams.{widths, lookup, commandOf, whole, faulty, front}
-use Rattle.reader.specs.Reading.{frontOf}
+use Rattle.packing.specs.Streams.{openingWidth, widths, lookup, commandOf, whole, faulty, front}
+use Rattle.reader.specs.Reading.{tableWidth, frontOf}
 
 -- Each way out of the reader, for a stream s that is not empty.
 pub front-unknown : (s : List ℕ) → 1 ≤ length s → lookup (getD s 0 0) widths ≡ Unknown → frontOf s ≡ faulty UnknownOpcode
@@ -43,14 +43,10 @@ pub shelve-width : (b w : ℕ) → lookup b widths ≡ Known w → b ≡ 2 → w
 unfolding widths lookup
 shelve-width b w e t = let f : lookup 2 widths ≡ Known w = subst (λ (x : ℕ). lookup x widths ≡ Known w) t e in cc
 
--- The table's only row but those of the opening and of command 02 has no operand.
-pub count-width : (b w : ℕ) → lookup b widths ≡ Known w → (b ≡ 1 → ⊥) → (b ≡ 2 → ⊥) → w ≡ 0
+-- It gives the opening the width that the opening's operands have together.
+pub opening-width : tableWidth 1 ≡ openingWidth
 unfolding widths lookup
-count-width b w e t u = go (eqb 3 b) (rw (ne-eqb 1 b (λ q. t (sym q)), ne-eqb 2 b (λ q. u (sym q))) at e)
-  where
-    go : (k : Bool) → (if k then Known 0 else Unknown) ≡ Known w → w ≡ 0
-    go true q = cc
-    go false q = absurd (let z : _≡_ {A = ℕ} 0 1 = cc in omega arith)
+opening-width = refl
 
 -- The tests that a whole front has passed.
 pub record Passed (s : List ℕ) (w : ℕ) : Type 0 where

@@ -1,4 +1,4 @@
--- The lookup in any table of rows, one row at a time: rows can be added without touching this. Assumes nothing.
+-- The lookup in any table of rows, one row at a time: rows can be added without touching this.
 use mathlib.Core.Path.{_≡_}
 use Prim.Native.Nat.{ℕ, _+_, _<_}
 use native.Mathlib.Numerals.{add-one}

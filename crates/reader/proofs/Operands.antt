@@ -1,4 +1,4 @@
--- An operand read byte by byte: what is read so far, with the bytes still to come, is the operand. Assumes nothing.
+-- An operand read byte by byte: what is read so far, with the bytes still to come, is the operand.
 use mathlib.Core.Path.{_≡_, ap, subst, _∙_}
 use mathlib.Core.List.{List, _∷_, foldl}
 use Prim.Native.Nat.{ℕ, suc, _+_, _-_, _*_, _^_, _≤_, _<_}

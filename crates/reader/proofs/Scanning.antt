@@ -1,4 +1,4 @@
--- The first pass over the commands: the verdict on the whole is the verdict on the rest, with the commands passed counted. Assumes nothing.
+-- The first pass over the commands: the verdict on the whole is the verdict on the rest, with the commands passed counted.
 use mathlib.Core.Path.{_≡_, refl, sym, ap, _∙_}
 use mathlib.Core.List.{List, [], _∷_}
 use Prim.Native.Nat.{ℕ, zero, suc, _+_, _-_, _≤_}
@@ -7,7 +7,7 @@ use lib.ListN.{length, drop, length-drop}
 use Rattle.packing.specs.declared.{Opening.Opening, Command.Command, StreamReason.StreamReason}
 use Rattle.packing.specs.declared.StreamReason.the-variants.{TooManyCommands}
 use Rattle.packing.specs.Limits.{mostCommands}
-use Rattle.packing.specs.Streams.{Read, accepted, refused, follow, whole, faulty, commands}
+use Rattle.packing.specs.Streams.{openingLength, behindOpening, Read, accepted, refused, follow, whole, faulty, commands}
 use Rattle.reader.specs.declared.Summary.{Summary}
 use Rattle.reader.specs.declared.Summary.the-variants.{Accepted, Refused}
 use Rattle.reader.specs.Reading.{frontOf, summary}
@@ -49,14 +49,21 @@ commands-none o zero offset [] h = refl
 commands-none o (suc left) offset [] h = refl
 commands-none o left offset (b ∷ s) h = absurd (omega arith)
 
--- Of the stream's commands, from offset 8 on, count are passed; what follows them stands at the offset.
+-- Of the stream's commands, behind the opening, count are passed; what follows them stands at the offset.
 pub record Scanned (o : Opening) (stream rest : List ℕ) (offset count : ℕ) : Type 0 where
   pub few : count ≤ mostCommands
   pub place : offset + length rest ≡ length stream
-  pub to-come : summary (commands o mostCommands 8 (drop 8 stream)) ≡ plus count (summary (commands o (mostCommands - count) offset rest))
+  pub to-come : summary (commands o mostCommands openingLength (behindOpening stream)) ≡ plus count (summary (commands o (mostCommands - count) offset rest))
 
-pub scanned-start : (o : Opening) (stream : List ℕ) → 8 ≤ length stream → Scanned o stream (drop 8 stream) 8 0
-scanned-start o stream h = record { few = omega arith; place = omega (arith, length-drop 8 stream); to-come = sym (plus-none (summary (commands o mostCommands 8 (drop 8 stream)))) }
+pub scanned-start : (o : Opening) (stream rest : List ℕ) → openingLength ≤ length stream → rest ≡ behindOpening stream
+    → Scanned o stream rest (length stream - length rest) 0
+scanned-start o stream rest h e =
+    let passed : length stream - length rest ≡ openingLength = omega (arith, ap length e, length-drop openingLength stream) in
+    record {
+      few = omega arith;
+      place = omega (arith, ap length e, length-drop openingLength stream);
+      to-come = rw (passed, e) (sym (plus-none (summary (commands o mostCommands openingLength (behindOpening stream)))));
+    }
 
 module _ (o : Opening) (stream rest : List ℕ) (offset count : ℕ) (g : Scanned o stream rest offset count) where
   pub scanned-next : (c : Command) (w : ℕ) → 1 ≤ length rest → (count ≡ mostCommands → ⊥) → frontOf rest ≡ whole c w → w + 1 ≤ length rest
@@ -76,19 +83,19 @@ module _ (o : Opening) (stream rest : List ℕ) (offset count : ℕ) (g : Scanne
       }
 
   pub scanned-faulty : (reason : StreamReason) → 1 ≤ length rest → (count ≡ mostCommands → ⊥) → frontOf rest ≡ faulty reason
-      → Refused reason offset ≡ summary (commands o mostCommands 8 (drop 8 stream))
+      → Refused reason offset ≡ summary (commands o mostCommands openingLength (behindOpening stream))
   scanned-faulty reason h n e =
       let more : mostCommands - count ≡ suc (mostCommands - (count + 1)) = omega (arith, g .few) in
       sym (g .to-come ∙ ap (λ (k : ℕ). plus count (summary (commands o k offset rest))) more
       ∙ ap (λ (r : Read). plus count (summary r)) (commands-faulty o (mostCommands - (count + 1)) offset rest reason h e))
 
-  pub scanned-full : 1 ≤ length rest → count ≡ mostCommands → Refused TooManyCommands offset ≡ summary (commands o mostCommands 8 (drop 8 stream))
+  pub scanned-full : 1 ≤ length rest → count ≡ mostCommands → Refused TooManyCommands offset ≡ summary (commands o mostCommands openingLength (behindOpening stream))
   scanned-full h n =
       let none : mostCommands - count ≡ 0 = omega arith in
       sym (g .to-come ∙ ap (λ (k : ℕ). plus count (summary (commands o k offset rest))) none
       ∙ ap (λ (r : Read). plus count (summary r)) (commands-full o offset rest h))
 
-  pub scanned-end : length rest ≤ 0 → Accepted o count ≡ summary (commands o mostCommands 8 (drop 8 stream))
+  pub scanned-end : length rest ≤ 0 → Accepted o count ≡ summary (commands o mostCommands openingLength (behindOpening stream))
   scanned-end h =
       let last : count + 0 ≡ count = omega arith in
       sym (g .to-come ∙ ap (λ (r : Read). plus count (summary r)) (commands-none o (mostCommands - count) offset rest (omega arith)) ∙ ap (Accepted o) last)

@@ -2,15 +2,29 @@
 use mathlib.Core.List.{List, [], _∷_}
 use mathlib.Core.Path.{_≡_}
 use Prim.Native.Nat.{ℕ, _+_, _^_, _≤_, _<_}
-use lib.ListN.{length}
-use Rattle.packing.specs.declared.Command.{Command}
+use lib.ListN.{length, getD}
+use Rattle.packing.specs.declared.{Command.Command, Width.Width}
+use Rattle.packing.specs.declared.Width.the-variants.{Known, Unknown}
 use Rattle.packing.specs.declared.StreamReason.the-variants.{UnknownOpcode}
 use Rattle.packing.specs.Streams as model
-use Rattle.packing.specs.Streams.{Read, widths, lookup}
+use Rattle.packing.specs.Streams.{openingLength, Read, widths, lookup}
 use Rattle.reader.specs.declared.Front.{Front}
 use Rattle.reader.specs.declared.Front.the-variants.{Whole, Faulty}
 use Rattle.reader.specs.declared.Summary.{Summary}
 use Rattle.reader.specs.declared.Summary.the-variants.{Accepted, Refused}
+
+-- The width of a byte that is in the table; 0 for any other.
+abbrev pub known : Width → ℕ
+known (Known width) = width
+known Unknown = 0
+
+abbrev pub tableWidth : (opcode : ℕ) → ℕ
+tableWidth opcode = known (lookup opcode widths)
+
+-- A whole opening stands at the front.
+pub record Opened (s : List ℕ) : Type 0 where
+  pub first : getD s 0 0 ≡ 0x01
+  pub all : openingLength ≤ length s
 
 -- An operand of up to 4 bytes stands in the row.
 pub record InStream (at width : ℕ) (s : List ℕ) : Type 0 where

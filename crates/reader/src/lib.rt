@@ -9,8 +9,8 @@ ghost use mathlib.Core.Path.{_≡_};
 ghost use Prim.Native.Nat.{_≤_};
 ghost use lib.ListN.{length, drop};
 ghost use Rattle.packing.specs.Limits.{mostCommands};
-ghost use Rattle.packing.specs.Streams.{widths, lookup, openingOf, commandOf, whole, commands, read};
-ghost use Rattle.reader.specs.Reading.{InStream, Operand, WholeFront, frontOf, means, summary};
+ghost use Rattle.packing.specs.Streams.{openingLength, behindOpening, widths, lookup, openingOf, commandOf, whole, commands, read};
+ghost use Rattle.reader.specs.Reading.{InStream, Operand, tableWidth, Opened, WholeFront, frontOf, means, summary};
 
 // "One table gives each command byte its operand width."
 const ROWS: usize = 3;
@@ -65,6 +65,16 @@ pub fn width_of(opcode: u8) -> Width
     found
 }
 
+// The operand width of a byte that is in the table; 0 for any other.
+fn table_width(opcode: u8) -> usize
+    ensures { λ r. ⌜ r ≡ tableWidth opcode ⌝ }
+{
+    let Width::Known(width) = width_of(opcode) else {
+        return 0;
+    };
+    width
+}
+
 // An unsigned operand of up to 4 bytes, most significant byte first.
 pub fn operand(s: &[u8], at: usize, width: usize) -> u32
     requires { ⌜ InStream at width (now s) ⌝ }
@@ -82,7 +92,7 @@ pub fn operand(s: &[u8], at: usize, width: usize) -> u32
 
 // The opening's operands, behind its opcode.
 pub fn opening_of(stream: &[u8]) -> Opening
-    requires { ⌜ 8 ≤ length (now stream) ⌝ }
+    requires { ⌜ openingLength ≤ length (now stream) ⌝ }
     ensures { λ r. ⌜ r ≡ openingOf (drop 1 (now (stream .entry))) ⌝ }
 {
     let capacity = operand(stream, 1, 4);
@@ -93,6 +103,17 @@ pub fn opening_of(stream: &[u8]) -> Opening
         stock: stock as u16,
         m: m as u8,
     }
+}
+
+// What follows the opening, as a part of the stream. How long an opening is, the table tells.
+pub fn behind_opening(stream: &[u8]) -> &[u8]
+    requires { ⌜ Opened (now stream) ⌝ }
+    ensures { λ r. ⌜ now r ≡ behindOpening (now (stream .entry)) ⌝ }
+{
+    let opcode = stream[0];
+    let width = table_width(opcode);
+    let begin = width + 1;
+    &stream[begin..]
 }
 
 // The command of an opcode that is in the table and is no opening, whole with its operands.
@@ -116,11 +137,11 @@ pub fn read_front(rest: &[u8]) -> Front
     let Width::Known(width) = width_of(opcode) else {
         return Front::Faulty(StreamReason::UnknownOpcode);
     };
-    let behind = rest.len() - 1;
+    let operands = rest.len() - 1;
     if opcode == 1 {
         return Front::Faulty(StreamReason::SecondOpening);
     }
-    if behind < width {
+    if operands < width {
         return Front::Faulty(StreamReason::CutShort);
     }
     let command = command_of(opcode, rest);
@@ -134,17 +155,17 @@ pub fn accepted_front(rest: &[u8]) -> Whole
 {
     let opcode = rest[0];
     let command = command_of(opcode, rest);
-    let width = if opcode == 2 { 4 } else { 0 };
+    let width = table_width(opcode);
     Whole { command, width }
 }
 
 // Reads the commands after the opening, of which there may be 4,096; refusal 6 comes first.
 fn scan(stream: &[u8], o: Opening) -> Summary
-    requires { ⌜ 8 ≤ length (now stream) ⌝ }
-    ensures { λ r. ⌜ r ≡ summary (commands o mostCommands 8 (drop 8 (now (stream .entry)))) ⌝ }
+    requires { ⌜ Opened (now stream) ⌝ }
+    ensures { λ r. ⌜ r ≡ summary (commands o mostCommands openingLength (behindOpening (now (stream .entry)))) ⌝ }
 {
-    let mut rest = &stream[8..];
-    let mut offset: usize = 8;
+    let mut rest = behind_opening(stream);
+    let mut offset: usize = stream.len() - rest.len();
     let mut count: usize = 0;
     while 0 < rest.len() {
         if count == 4096 {
@@ -172,10 +193,13 @@ pub fn validate(stream: &[u8]) -> Summary
     if stream.len() == 0 {
         return Summary::Refused(StreamReason::NoOpening, 0);
     }
-    if stream[0] != 1 {
+    let opcode = stream[0];
+    if opcode != 1 {
         return Summary::Refused(StreamReason::NoOpening, 0);
     }
-    if stream.len() < 8 {
+    let width = table_width(opcode);
+    let behind = stream.len() - 1;
+    if behind < width {
         return Summary::Refused(StreamReason::CutShort, 0);
     }
     let o = opening_of(stream);

@@ -1,7 +1,7 @@
--- The run over the commands: what is still to come, from the packing that the store represents, is what is to come from the empty one. Assumes nothing.
+-- The run over the commands: what is still to come, from the packing that the store represents, is what is to come from the empty one.
 use mathlib.Core.Path.{_≡_, refl, sym, ap, subst, _∙_}
 use mathlib.Core.List.{List, [], _∷_, _++_, map, foldl, zipWith, flatten, append-assoc, append-nil}
-use Prim.Native.Nat.{ℕ, suc, _+_, _≤_, _<_}
+use Prim.Native.Nat.{ℕ, suc, _+_, _-_, _≤_, _<_}
 use native.Mathlib.Numerals.{add-one}
 use native.Mathlib.Omega.{arith}
 use lib.ListN.{length, take, drop, set, length-append, length-drop, length-set, take-append-drop, replicate}
@@ -9,7 +9,8 @@ use lib.Seq.{take-suc-set, drop-set-lt, drop-drop}
 use Rattle.packing.specs.declared.{Opening.Opening, Command.Command, Answer.Answer}
 use Rattle.packing.specs.Refusals.{word}
 use Rattle.packing.specs.Bins.{Packing, empty, opened}
-use Rattle.packing.specs.Streams.{Front, accepted, whole, faulty, commands, verdict}
+use Rattle.packing.specs.Limits.{mostCommands}
+use Rattle.packing.specs.Streams.{openingLength, behindOpening, accepted, whole, commands, verdict}
 use Rattle.packing.specs.Run.{placement, answerTo, next, outcomesFrom, packing, outcomes, placements}
 use Rattle.packing.specs.Claims.{Whole}
 use Rattle.packing.proofs.Trace.{placementsFrom}
@@ -25,7 +26,7 @@ use Rattle.stream.specs.declared.run.Totals.{Totals}
 use Rattle.reader.specs.Reading.{WholeFront, frontOf}
 use Rattle.stream.specs.Running.{Runnable, Ran}
 use Rattle.reader.proofs.Scanning.{commands-none}
-use Rattle.reader.proofs.Following.{Rest, rest-of, never-faulty}
+use Rattle.reader.proofs.Following.{Rest, rest-of, front-whole-of}
 
 pub runnable-whole : (stream row : List ℕ) (o : Opening) (r : Runnable stream row o) → Whole stream row o (r .commands)
 runnable-whole stream row o r = accepted-whole row o (r .commands) stream (r .accepts)
@@ -51,21 +52,21 @@ pub record Going (o : Opening) (shape : Shape) (stream row words trees rest : Li
 
 module _ (o : Opening) (shape : Shape) (stream row : List ℕ) where
   pub going-start : (n : ℕ) → n ≡ 5120 → Runnable stream row o → Fitted (o .stock) shape
-      → Going o shape stream row row (replicate n 0) (drop 8 stream) zeroCounters 0
-  going-start n e r f =
+      → (rest : List ℕ) → rest ≡ behindOpening stream → Going o shape stream row row (replicate n 0) rest zeroCounters 0
+  going-start n e r f rest b =
       let w = runnable-whole stream row o r in
       record {
         all = r .commands;
         accepts = r .accepts;
         packed = empty;
-        left = 4096;
-        offset = 8;
+        left = mostCommands;
+        offset = openingLength;
         coming = r .commands;
         sound = empty-sound o shape n e (w .opening-good) f;
         represents = empty-represents o shape n e (w .opening-good) f;
-        reads = w .commands-whole;
+        reads = rw b (w .commands-whole);
         counted = omega arith;
-        inside = omega (arith, length-drop 8 stream);
+        inside = omega (arith, ap length b, length-drop openingLength stream);
         same = refl;
         answered = refl;
         untouched = refl;
@@ -87,11 +88,7 @@ module _ (o : Opening) (shape : Shape) (stream row : List ℕ) where
     module _ (some : 1 ≤ length rest) where
       -- The rest is read with no fault, so a whole command stands at its front.
       pub going-whole : WholeFront rest
-      going-whole = go (frontOf rest) refl
-        where
-          go : (r : Front) → frontOf rest ≡ r → WholeFront rest
-          go (whole command w) f = record { command = command; width = w; front = f }
-          go (faulty reason) f = never-faulty o (g .offset) rest (g .coming) some (g .left) reason f (g .reads)
+      going-whole = front-whole-of o (g .offset) rest (g .coming) some (g .left) (g .reads)
 
       module _ (command : Command) (w : ℕ) (f : frontOf rest ≡ whole command w) where
         more : Rest o (g .left) (g .offset) rest command w (g .coming)
@@ -100,10 +97,10 @@ module _ (o : Opening) (shape : Shape) (stream row : List ℕ) where
         pub going-word : done < length words
         going-word = omega (arith, g .counted, ok .row-enough, g .same, ap length (more .all))
 
-        pub going-next : (u behind : List ℕ) (r : Answer) (d : Counters) (v : ℕ) → Done o shape (held trees c) (done + 1) command r (held u d) → v ≡ word (r .outcome)
+        one-more : (u behind : List ℕ) (r : Answer) (d : Counters) (v : ℕ) → Done o shape (held trees c) (done + 1) command r (held u d) → v ≡ word (r .outcome)
             → behind ≡ drop (w + 1) rest → Going o shape stream row (set words done v) u behind d (done + 1)
         unfolding outcomesFrom flatten zipWith
-        going-next u behind r d v step e b =
+        one-more u behind r d v step e b =
             let p = g .packed in
             let m = step .model p (g .represents) in
             let later = more .later in
@@ -136,6 +133,13 @@ module _ (o : Opening) (shape : Shape) (stream row : List ℕ) where
           where
             sooner : (a b : List ℕ) → drop done a ≡ drop done b → drop (suc done) a ≡ drop (suc done) b
             sooner a b e = rw (← add-one done, ← drop-drop 1 done a, ← drop-drop 1 done b, e)
+
+        -- The word of the answer's own number is the next.
+        pub going-next : (u behind : List ℕ) (r : Answer) (d : Counters) (v : ℕ) → Done o shape (held trees c) (done + 1) command r (held u d) → v ≡ word (r .outcome)
+            → behind ≡ drop (w + 1) rest → Going o shape stream row (set words (r .number - 1) v) u behind d (r .number)
+        going-next u behind r d v step e b =
+            let place : r .number - 1 ≡ done = omega (arith, step .numbered) in
+            rw (place, step .numbered) (one-more u behind r d v step e b)
 
     module _ (none : length rest ≤ 0) where
       nothing : g .coming ≡ []

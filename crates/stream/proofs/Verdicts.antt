@@ -1,4 +1,4 @@
--- From what the first pass keeps of a reading to the verdict on stream and row. Assumes nothing.
+-- From what the first pass keeps of a reading to the verdict on stream and row.
 use mathlib.Core.Path.{_≡_, refl}
 use mathlib.Core.List.{List}
 use Prim.Native.Nat.{ℕ, _≤_, _<_}

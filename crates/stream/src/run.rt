@@ -10,7 +10,7 @@ pub struct Totals {
     pub opened: usize,
 }
 
-// Answers every command of a stream that no refusal stops, each by the word of its number.
+// Answers every command of a stream that no refusal stops, each by the word of its answer's number.
 pub fn answer_all(stream: &[u8], opening: Opening, answers: &mut [u16]) -> Totals
     requires { ⌜ Runnable (now stream) (now answers) opening ⌝ }
     ensures { λ r. ⌜ Ran (now (stream .entry)) (now (answers .entry)) r (now (answers .exit)) ⌝ }
@@ -22,19 +22,20 @@ pub fn answer_all(stream: &[u8], opening: Opening, answers: &mut [u16]) -> Total
         phase: 0,
         items: 0,
     };
-    let mut rest = &stream[8..];
+    let mut rest = reader::behind_opening(stream);
     let mut done: usize = 0;
     while 0 < rest.len() {
         let front = reader::accepted_front(rest);
         let command = front.command;
+        let used = front.width + 1;
         let number = done + 1;
         let step = engine::answer(&mut trees, shape, counters, opening, number, command);
         let answer = step.answer;
         let outcome = answer.outcome;
-        answers[done] = packing::word_of(outcome);
+        let place = answer.number - 1;
+        answers[place] = packing::word_of(outcome);
         counters = step.next;
-        done = number;
-        let used = front.width + 1;
+        done = answer.number;
         rest = &rest[used..];
     }
     let items = counters.items as usize;

@@ -1,4 +1,4 @@
--- `accept` meets its contract. Assumes nothing.
+-- `accept` meets its contract.
 use borrow.Author.Needs.{needs}
 use Rattle.engine.proofs.accept.Statement.{statement}
 use Rattle.engine.proofs.accept.Tie as tie

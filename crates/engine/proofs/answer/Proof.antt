@@ -1,4 +1,4 @@
--- `answer` meets its contract: each command by the function that answers it. Assumes nothing.
+-- `answer` meets its contract: each command by the function that answers it.
 use borrow.Author.Needs.{needs}
 use Rattle.engine.proofs.Ways.{done-count}
 use Rattle.engine.proofs.answer.Statement.{statement}

@@ -1,4 +1,4 @@
--- `b2_tree` meets its contract. Assumes nothing.
+-- `b2_tree` meets its contract.
 use Prim.Native.Nat.{_+_}
 use native.Mathlib.Omega.{arith}
 use borrow.Author.Tests.{eq-eqb, ne-eqb}

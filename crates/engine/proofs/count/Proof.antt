@@ -1,4 +1,4 @@
--- `count` meets its contract. Assumes nothing.
+-- `count` meets its contract.
 use Rattle.engine.proofs.Ways.{counting}
 use Rattle.engine.proofs.count.Statement.{statement}
 use Rattle.engine.proofs.count.Tie as tie

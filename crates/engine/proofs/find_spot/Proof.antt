@@ -1,4 +1,4 @@
--- `find_spot` meets its contract: what the search says of the leaves, and then each way out. Assumes nothing.
+-- `find_spot` meets its contract: what the search says of the leaves, and then each way out.
 use mathlib.Core.Path.{_≡_, sym, subst, _∙_}
 use mathlib.Core.List.{List}
 use Prim.Native.Nat.{ℕ, _*_}

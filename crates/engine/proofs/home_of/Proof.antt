@@ -1,4 +1,4 @@
--- `home_of` meets its contract. Assumes nothing.
+-- `home_of` meets its contract.
 use borrow.Author.Needs.{needs}
 use Rattle.engine.proofs.Aiming.{home-same}
 use Rattle.engine.proofs.home_of.Statement.{statement}

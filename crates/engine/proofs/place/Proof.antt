@@ -1,4 +1,4 @@
--- `place` meets its contract: a size within 1 and the capacity is placed; of the others, 0 is refused first. Assumes nothing.
+-- `place` meets its contract: a size within 1 and the capacity is placed; of the others, 0 is refused first.
 use mathlib.Core.Path.{_≡_, sym, _∙_}
 use mathlib.Core.Bool.{false, false≢true}
 use Prim.Native.Nat.{ℕ, _<_}

@@ -1,4 +1,4 @@
--- `place_fitting` meets its contract: what is known of the item before the search, the spot that is found for it, and then each way out. Assumes nothing.
+-- `place_fitting` meets its contract: what is known of the item before the search, the spot that is found for it, and then each way out.
 use mathlib.Core.Path.{_≡_, sym, _∙_}
 use Prim.Native.Nat.{ℕ, _≤_, _<_}
 use native.Mathlib.Omega.{arith}

@@ -1,4 +1,4 @@
--- `refuse` meets its contract. Assumes nothing.
+-- `refuse` meets its contract.
 use mathlib.Core.Path.{refl}
 use Rattle.engine.proofs.refuse.Statement.{statement}
 use Rattle.engine.proofs.refuse.Tie as tie

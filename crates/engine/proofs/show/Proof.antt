@@ -1,4 +1,4 @@
--- `show` meets its contract. Assumes nothing.
+-- `show` meets its contract.
 use native.Mathlib.Omega.{arith}
 use borrow.Author.Needs.{needs}
 use Rattle.engine.proofs.Forests.{still, shown-once, shown-twice}

@@ -1,12 +1,13 @@
--- `accepted_front` meets its contract: a whole front has passed every test, so its opcode alone tells its width. Assumes nothing.
+-- `accepted_front` meets its contract: a whole front has passed every test, and the table tells its width.
 use mathlib.Core.Path.{_≡_, sym, ap, subst, _∙_}
 use mathlib.Core.List.{List}
 use Prim.Native.Nat.{ℕ}
 use native.Mathlib.Omega.{arith}
 use lib.ListN.{drop, getD}
 use Rattle.packing.specs.Streams.{commandOf, whole}
-use Rattle.reader.specs.Reading.{frontOf}
-use Rattle.reader.proofs.Fronts.{Passed, whole-passed, front-whole, shelve-width, count-width}
+use borrow.Author.Needs.{needs}
+use Rattle.reader.specs.Reading.{known, frontOf}
+use Rattle.reader.proofs.Fronts.{Passed, whole-passed, front-whole, shelve-width}
 use Rattle.reader.proofs.accepted_front.Statement.{statement}
 use Rattle.reader.proofs.accepted_front.Tie as tie
 
@@ -34,16 +35,15 @@ command-of-requires c κs e =
     let p = passed (c .before .before) in
     omega (arith, p .inside, shelve-width _ _ (p .known) e)
 
+table-width-requires : tie.Need-table-width-requires
+table-width-requires c κs = search needs
+
 returns : tie.Need-returns
 returns c =
     let s = c .before .before .before .before in
-    ap (λ x. whole x 4) (c .before .command-of .ensures) ∙ is-front s 4 (shelve-width _ _ (passed s .known) (c .if1 .taken))
-
-returns-2 : tie.Need-returns-2
-returns-2 c =
-    let s = c .before .before .before .before in
-    let p = passed s in
-    ap (λ x. whole x 0) (c .before .command-of .ensures) ∙ is-front s 0 (count-width _ _ (p .known) (p .no-opening) (c .if1 .left))
+    let w : width s ≡ c .table-width .result = sym (c .table-width .ensures ∙ ap known (passed s .known)) in
+    ap (λ x. whole x (c .table-width .result)) (c .before .command-of .ensures) ∙ is-front s (c .table-width .result) w
 
 pub accepted-front-spec : {M : Type 1} → statement M
-accepted-front-spec = tie.close (tie.spec shared-slice-read-opcode command-of-requires returns returns-2)
+accepted-front-spec =
+    tie.close (tie.spec shared-slice-read-opcode command-of-requires table-width-requires returns)

@@ -1,4 +1,4 @@
--- `command_of` meets its contract: command 02 has its size behind the opcode. Assumes nothing.
+-- `command_of` meets its contract: command 02 has its size behind the opcode.
 use borrow.Author.Tests.{eq-eqb, ne-eqb}
 use native.Mathlib.Omega.{arith}
 use Rattle.reader.proofs.command_of.Statement.{statement}

@@ -1,4 +1,4 @@
--- `opening_of` meets its contract: the operands stand one after another behind the opcode. Assumes nothing.
+-- `opening_of` meets its contract: the operands stand one after another behind the opcode.
 use borrow.Author.Needs.{needs}
 use Rattle.reader.proofs.Operands.{opening-is}
 use Rattle.reader.proofs.opening_of.Statement.{statement}

@@ -1,4 +1,4 @@
--- `operand` meets its contract. The invariant: the bytes still to come complete the operand (Operands). The measure is the bytes left. Assumes nothing.
+-- `operand` meets its contract. The invariant: the bytes still to come complete the operand (Operands). The measure is the bytes left.
 use Prim.Native.Nat.{ℕ, _+_, _-_, _*_, _^_, _≤_, _<_}
 use native.Mathlib.Nat.{pow-le-pow-right}
 use native.Mathlib.Omega.{arith}

@@ -1,4 +1,4 @@
--- `read_front` meets its contract: each way out is one of the four ways that the front can be. Assumes nothing.
+-- `read_front` meets its contract: each way out is one of the four ways that the front can be.
 use mathlib.Core.Path.{_≡_, sym, ap, _∙_}
 use mathlib.Core.List.{List}
 use Prim.Native.Nat.{ℕ}
@@ -44,8 +44,8 @@ returns c =
     let w = c .before .before in
     sym (front-unknown (row w) (start w .pre) (sym (w .width-of .ensures) ∙ c .enum-told .given .1))
 
-sub-behind : tie.Need-sub-behind
-sub-behind c = search needs
+sub-operands : tie.Need-sub-operands
+sub-operands c = search needs
 
 returns-2 : tie.Need-returns-2
 returns-2 c =
@@ -76,7 +76,7 @@ read-front-spec =
     enum-known-width
     enum-told
     returns
-    sub-behind
+    sub-operands
     returns-2
     returns-3
     command-of-requires

@@ -1,11 +1,10 @@
 -- `scan` meets its contract. The invariant: the verdict on the rest is the verdict on the whole (Scanning). The measure is the length of the rest.
--- Assumes nothing.
 use mathlib.Core.Path.{_≡_, sym, ap, subst, _∙_}
 use Prim.Native.Nat.{ℕ, _+_, _≤_}
 use native.Mathlib.Omega.{arith}
-use lib.ListN.{length}
+use lib.ListN.{length, length-drop}
 use borrow.Author.Needs.{needs}
-use Rattle.packing.specs.Streams.{whole, faulty}
+use Rattle.packing.specs.Streams.{openingLength, whole, faulty}
 use Rattle.reader.specs.Reading.{frontOf, means}
 use Rattle.reader.proofs.Fronts.{whole-inside, part-is}
 use Rattle.reader.proofs.Scanning.{Scanned, scanned-start, scanned-next, scanned-faulty, scanned-full, scanned-end}
@@ -35,20 +34,16 @@ whole-front c = ap means (sym (c .before .width .given .1)) ∙ c .before .befor
 inside : (c : tie.After-known-told2 Inv-loop μ-loop) → width c + 1 ≤ length (look c .loop .rest .now)
 inside c = whole-inside (look c .loop .rest .now) _ (width c) (c .before .before .before .before .before .loop-test .taken) (sym (whole-front c))
 
-sub-rest : tie.Need-sub-rest Inv-loop μ-loop
-sub-rest c = c .before .pre
+behind-opening-requires : tie.Need-behind-opening-requires Inv-loop μ-loop
+behind-opening-requires c κs = c .before .pre
 
-part-rest-start : tie.Need-part-rest-start Inv-loop μ-loop
-part-rest-start c = search needs
-
-part-rest-end : tie.Need-part-rest-end Inv-loop μ-loop
-part-rest-end c = search needs
+sub-offset : tie.Need-sub-offset Inv-loop μ-loop
+sub-offset c =
+    let s = c .before .before .args .stream .now in
+    omega (arith, ap length (c .behind-opening .ensures), length-drop openingLength s)
 
 loop-holds : tie.Need-loop-holds Inv-loop μ-loop
-loop-holds c =
-    let s = c .before .before in
-    subst (λ r. Scanned (s .args .o) (s .args .stream .now) r 8 0) (sym (part-is (s .args .stream .now) 8 (s .pre)))
-    (scanned-start (s .args .o) (s .args .stream .now) (s .pre))
+loop-holds c = scanned-start _ _ _ (c .before .before .pre .all) (c .behind-opening .ensures)
 
 returns : tie.Need-returns Inv-loop μ-loop
 returns c = scanned-full _ _ _ _ _ (c .before .before .loop .inv) (c .before .loop-test .taken) (c .if1 .taken)
@@ -70,14 +65,14 @@ enum-known-width c = search needs
 add-used : tie.Need-add-used Inv-loop μ-loop
 add-used c = omega (arith, inside c, look c .loop .inv .place)
 
-sub-rest-2 : tie.Need-sub-rest-2 Inv-loop μ-loop
-sub-rest-2 c = inside c
+sub-rest : tie.Need-sub-rest Inv-loop μ-loop
+sub-rest c = inside c
 
-part-rest-start-2 : tie.Need-part-rest-start-2 Inv-loop μ-loop
-part-rest-start-2 c = omega (arith, inside c)
+part-rest-start : tie.Need-part-rest-start Inv-loop μ-loop
+part-rest-start c = omega (arith, inside c)
 
-part-rest-end-2 : tie.Need-part-rest-end-2 Inv-loop μ-loop
-part-rest-end-2 c = search needs
+part-rest-end : tie.Need-part-rest-end Inv-loop μ-loop
+part-rest-end c = search needs
 
 add-offset : tie.Need-add-offset Inv-loop μ-loop
 add-offset c = omega (arith, inside (c .before), look (c .before) .loop .inv .place)
@@ -106,9 +101,8 @@ scan-spec =
     (tie.spec
     Inv-loop
     μ-loop
-    sub-rest
-    part-rest-start
-    part-rest-end
+    behind-opening-requires
+    sub-offset
     loop-holds
     returns
     read-front-requires
@@ -116,9 +110,9 @@ scan-spec =
     returns-2
     enum-known-width
     add-used
-    sub-rest-2
-    part-rest-start-2
-    part-rest-end-2
+    sub-rest
+    part-rest-start
+    part-rest-end
     add-offset
     add-count
     loop-less

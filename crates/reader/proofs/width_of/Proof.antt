@@ -1,4 +1,4 @@
--- `width_of` meets its contract. The invariant: what is found is the answer of the rows from i on. The measure is i. Assumes nothing.
+-- `width_of` meets its contract. The invariant: what is found is the answer of the rows from i on. The measure is i.
 use Prim.Native.Nat.{ℕ, _+_, _-_, _≤_}
 use native.Mathlib.Omega.{arith}
 use mathlib.Core.Path.{_≡_, refl, sym, ap, _∙_}

@@ -1,5 +1,4 @@
 -- `shelve` meets its contract: each refusal is the verdict and leaves the row as it was, and an accepted stream is what `answer_all` ensures.
--- Assumes nothing.
 use mathlib.Core.Path.{sym, ap, _∙_}
 use mathlib.Core.List.{List}
 use Prim.Native.Nat.{ℕ}
