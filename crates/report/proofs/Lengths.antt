@@ -1,29 +1,48 @@
--- How long a line is at most. Assumes nothing.
-use mathlib.Core.List.{[], _∷_}
-use Prim.Native.Nat.{ℕ, suc, _+_, _^_, _≤_, _<_}
+-- How long the line of an answer is at most: the figure beside the command's number is at most the stock, or a refusal's number.
+use mathlib.Core.Path.{_≡_, refl}
+use Prim.Native.Nat.{ℕ, _≤_}
 use Prim.Native.Char.{code}
 use native.Mathlib.Omega.{arith}
-use lib.ListN.{length, length-append}
-use Rattle.packing.specs.declared.{Outcome.Outcome}
+use lib.ListN.{length}
+use Rattle.packing.specs.declared.{Opening.Opening, Command.Command, ItemReason.ItemReason, Outcome.Outcome}
+use Rattle.packing.specs.declared.Command.the-variants.{Shelve, Count}
 use Rattle.packing.specs.declared.Outcome.the-variants.{Placed, Counted, Refused}
-use Rattle.report.specs.Lines.{figure, figures, line, lineOf}
-use Rattle.report.proofs.Decimals.{decimal-few}
-use Rattle.report.proofs.Stock.{figureOf}
+use Rattle.packing.specs.declared.ItemReason.the-variants.{SizeZero, AboveCapacity, StockSpent}
+use Rattle.packing.specs.Refusals.{itemNumber}
+use Rattle.packing.specs.Bins.{Packing, opened}
+use Rattle.packing.specs.Placing.{outcome}
+use Rattle.packing.specs.Run.{item, answerTo}
+use Rattle.packing.proofs.Given.{never-counted, placed-in-stock}
+use Rattle.text.proofs.Lengths.{line-few}
+use Rattle.report.specs.Lines.{lineOf}
 
--- Two figures of so many digits: with them stand a letter, two spaces and a newline.
-pub line-few : (letter j k : ℕ) (a b : ℕ) → a < 10 ^ suc j → b < 10 ^ suc k → length (line letter (a ∷ b ∷ [])) ≤ j + k + 6
-unfolding line
-line-few letter j k a b h r =
-    omega (
-      arith,
-      length-append (figure a) (figures (b ∷ [])),
-      length-append (figure b) (figures []),
-      decimal-few j a h,
-      decimal-few k b r,
-    )
+-- The second figure of an answer's line.
+abbrev figureOf : Outcome → ℕ
+figureOf (Placed bin) = bin
+figureOf (Counted n) = n
+figureOf (Refused reason) = itemNumber reason
+
+number-few : (reason : ItemReason) → itemNumber reason ≤ 10
+number-few SizeZero = omega arith
+number-few AboveCapacity = omega arith
+number-few StockSpent = omega arith
+
+-- In a packing whose bins are in stock.
+answer-few : (o : Opening) → o .stock ≤ 512 → (p : Packing) → opened p ≤ o .stock → (c : Command) → figureOf (answerTo o p c) ≤ 512
+answer-few o stock p few Count = omega arith
+answer-few o stock p few (Shelve s) = go (outcome o p (item s)) refl
+  where
+    go : (a : Outcome) → outcome o p (item s) ≡ a → figureOf a ≤ 512
+    go (Placed bin) e = omega (arith, placed-in-stock o stock p few s bin e)
+    go (Counted n) e = never-counted o p (item s) n e
+    go (Refused reason) e = omega (arith, number-few reason)
 
 -- "P 4096 512" and the like, with the newline.
-pub answer-line-few : (number : ℕ) (a : Outcome) → number ≤ 4096 → figureOf a ≤ 512 → length (lineOf number a) ≤ 11
-answer-line-few number (Placed bin) h r = line-few (code "P") 3 2 number bin (omega arith) (omega arith)
-answer-line-few number (Counted n) h r = line-few (code "C") 3 2 number n (omega arith) (omega arith)
-answer-line-few number (Refused reason) h r = line-few (code "R") 3 2 number _ (omega arith) (omega arith)
+line-few-of : (number : ℕ) (a : Outcome) → number ≤ 4096 → figureOf a ≤ 512 → length (lineOf number a) ≤ 11
+line-few-of number (Placed bin) h r = line-few (code "P") 3 2 number bin (omega arith) (omega arith)
+line-few-of number (Counted n) h r = line-few (code "C") 3 2 number n (omega arith) (omega arith)
+line-few-of number (Refused reason) h r = line-few (code "R") 3 2 number _ (omega arith) (omega arith)
+
+pub answer-line-few : (o : Opening) → o .stock ≤ 512 → (p : Packing) → opened p ≤ o .stock → (c : Command) (number : ℕ) → number ≤ 4096
+    → length (lineOf number (answerTo o p c)) ≤ 11
+answer-line-few o stock p few c number h = line-few-of number (answerTo o p c) h (answer-few o stock p few c)

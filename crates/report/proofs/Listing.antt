@@ -1,4 +1,4 @@
--- The walk over the commands of an accepted stream: the lines still to come, behind those that are written, are the lines of all answers. Assumes nothing.
+-- The walk over the commands of an accepted stream: the lines still to come, behind those that are written, are the lines of all answers.
 use mathlib.Core.Path.{_≡_, refl, sym, ap, subst, _∙_}
 use mathlib.Core.List.{List, [], _∷_, _++_, map, flatten}
 use Prim.Native.Nat.{ℕ, suc, _+_, _*_, _≤_, _<_}
@@ -6,21 +6,23 @@ use native.Mathlib.Numerals.{add-one}
 use native.Mathlib.Omega.{arith}
 use lib.ListN.{length, drop, getD, length-append, length-drop}
 use lib.Seq.{sets, length-sets, drop-drop, getD-drop}
-use Rattle.packing.specs.declared.{Opening.Opening, Command.Command, Outcome.Outcome, StreamReason.StreamReason}
-use Rattle.packing.specs.Refusals.{word}
+use Rattle.packing.specs.declared.{Opening.Opening, Command.Command, Outcome.Outcome, Answer.Answer}
+use Rattle.packing.specs.Limits.{mostCommands}
+use Rattle.packing.specs.Refusals.{word, outcomeOf}
 use Rattle.packing.specs.Bins.{Packing, empty, opened}
-use Rattle.packing.specs.Streams.{Read, accepted, whole, faulty, commands, verdict}
+use Rattle.packing.specs.Streams.{openingLength, behindOpening, Read, accepted, whole, commands, verdict}
 use Rattle.packing.specs.Run.{numbered, answerTo, next, outcomesFrom, answers, rowAtExit}
 use Rattle.packing.specs.Claims.{Whole}
 use Rattle.packing.proofs.Limits.{in-limits}
 use Rattle.packing.proofs.Accepted.{accepted-whole}
-use Rattle.reader.specs.Reading.{frontOf}
+use Rattle.packing.proofs.Given.{next-in-stock, word-gives-back}
+use Rattle.reader.specs.Reading.{WholeFront, frontOf}
 use Rattle.reader.proofs.Scanning.{commands-none}
-use Rattle.reader.proofs.Following.{Rest, rest-of, never-faulty}
-use Rattle.report.specs.Lines.{lineOf, lines, lentRow}
-use Rattle.report.specs.Writing.{Room, Wrote, wordLine, Answered, Listed}
-use Rattle.report.proofs.Rows.{sets-append}
-use Rattle.report.proofs.Stock.{next-in-stock, answer-few, word-tells}
+use Rattle.reader.proofs.Following.{Rest, rest-of, front-whole-of}
+use Rattle.text.specs.Writing.{Room, Wrote}
+use Rattle.text.proofs.Rows.{sets-append}
+use Rattle.report.specs.Lines.{lineOf, answerLine, lines, lentRow}
+use Rattle.report.specs.Writing.{Answered, Listed}
 use Rattle.report.proofs.Lengths.{answer-line-few}
 
 -- The lines of the commands cs from the packing p on, the first of them numbered one more than done.
@@ -52,22 +54,22 @@ pub record Listing (stream words out₀ out rest : List ℕ) (done at : ℕ) : T
 pub answered-whole : (stream words out : List ℕ) (a : Answered stream words out) → Whole stream lentRow (a .opening) (a .commands)
 answered-whole stream words out a = accepted-whole lentRow (a .opening) (a .commands) stream (a .accepts)
 
-pub listing-start : (stream words out : List ℕ) → Answered stream words out → Listing stream words out out (drop 8 stream) 0 0
-listing-start stream words out a =
+pub listing-start : (stream words out rest : List ℕ) → Answered stream words out → rest ≡ behindOpening stream → Listing stream words out out rest 0 0
+listing-start stream words out rest a b =
     record {
       opening = a .opening;
       all = a .commands;
       accepts = a .accepts;
       packed = empty;
       in-stock = omega arith;
-      left = 4096;
-      offset = 8;
+      left = mostCommands;
+      offset = openingLength;
       coming = a .commands;
-      reads = answered-whole stream words out a .commands-whole;
+      reads = rw b (answered-whole stream words out a .commands-whole);
       behind = drop (length (a .commands)) lentRow;
       answered = a .answers ∙ ap (λ (r : Read). rowAtExit r lentRow) (a .accepts);
       counted = omega arith;
-      inside = omega (arith, length-drop 8 stream);
+      inside = omega (arith, ap length b, length-drop openingLength stream);
       room = a .room;
       same = refl;
       few = omega arith;
@@ -83,8 +85,8 @@ module _ (stream words out₀ out rest : List ℕ) (done at : ℕ) (g : Listing 
   few-bins = in-limits (g .opening) (ok .opening-good) .stock .1
 
   module _ (some : 1 ≤ length rest) where
-    pub listing-faulty : (reason : StreamReason) {A : Type 0} → frontOf rest ≡ faulty reason → A
-    listing-faulty reason f = never-faulty (g .opening) (g .offset) rest (g .coming) some (g .left) reason f (g .reads)
+    pub listing-whole : WholeFront rest
+    listing-whole = front-whole-of (g .opening) (g .offset) rest (g .coming) some (g .left) (g .reads)
 
     module _ (command : Command) (w : ℕ) (f : frontOf rest ≡ whole command w) where
       more : Rest (g .opening) (g .left) (g .offset) rest command w (g .coming)
@@ -112,20 +114,23 @@ module _ (stream words out₀ out rest : List ℕ) (done at : ℕ) (g : Listing 
 
       line-few : length (lineOf (done + 1) answer) ≤ 11
       line-few =
-          answer-line-few (done + 1) answer (omega (arith, listing-index)) (answer-few (g .opening) (g .packed) few-bins (g .in-stock) command)
+          answer-line-few (g .opening) few-bins (g .packed) (g .in-stock) command (done + 1) (omega (arith, listing-index))
 
-      -- The word at the command's place tells its line.
-      module _ (v : ℕ) (e : v ≡ getD words done 0) where
-        told : wordLine (done + 1) command v ≡ lineOf (done + 1) answer
+      -- The word at the command's place tells its answer, and so its line.
+      module _ (a : Outcome) (e : a ≡ outcomeOf command (getD words done 0)) where
+        abbrev printing : Answer
+        printing = record { number = done + 1; outcome = a }
+
+        told : answerLine printing ≡ lineOf (done + 1) answer
         told =
             let here : done + 0 ≡ done = omega arith in
             let first : getD words done 0 ≡ word answer = ap (λ (k : ℕ). getD words k 0) (sym here) ∙ sym (getD-drop done words 0 0) ∙ ap (λ (l : List ℕ). getD l 0 0) words-from in
-            ap (wordLine (done + 1) command) (e ∙ first) ∙ word-tells (g .opening) (g .packed) few-bins (g .in-stock) (done + 1) command
+            ap (lineOf (done + 1)) (e ∙ ap (outcomeOf command) first ∙ word-gives-back (g .opening) few-bins (g .packed) (g .in-stock) command)
 
-        pub listing-room : Room out at (wordLine (done + 1) command v)
+        pub listing-room : Room out at (answerLine printing)
         listing-room = omega (arith, ap length told, line-few, g .few, g .room, g .same, listing-index)
 
-        pub listing-next : (out′ rest′ : List ℕ) (end : ℕ) → Wrote out at (wordLine (done + 1) command v) end out′ → rest′ ≡ drop (w + 1) rest
+        pub listing-next : (out′ rest′ : List ℕ) (end : ℕ) → Wrote out at (answerLine printing) end out′ → rest′ ≡ drop (w + 1) rest
             → Listing stream words out₀ out′ rest′ (done + 1) end
         listing-next out′ rest′ end wrote b =
             let l = lineOf (done + 1) answer in
@@ -137,7 +142,7 @@ module _ (stream words out₀ out rest : List ℕ) (done at : ℕ) (g : Listing 
               all = g .all;
               accepts = g .accepts;
               packed = packed′;
-              in-stock = next-in-stock (g .opening) (g .packed) few-bins (g .in-stock) command;
+              in-stock = next-in-stock (g .opening) few-bins (g .packed) (g .in-stock) command;
               left = more .left′;
               offset = g .offset + suc w;
               coming = more .later;

@@ -1,4 +1,4 @@
--- What is printed of a stream, by what `shelve` of the crate stream returns of it. Assumes nothing.
+-- What is printed of a stream, by what `shelve` of the crate stream returns of it.
 use mathlib.Core.Path.{_≡_, refl, sym, ap, _∙_}
 use mathlib.Core.List.{List, [], _∷_, _++_}
 use Prim.Native.Nat.{ℕ, _≤_, _<_}
@@ -17,9 +17,10 @@ use Rattle.packing.proofs.Limits.{in-limits}
 use Rattle.packing.proofs.Trace.{trace}
 use Rattle.packing.proofs.Numbers.{placements-few, trace-in-stock}
 use Rattle.packing.proofs.Accepted.{accepted-whole}
-use Rattle.report.specs.Lines.{digits, decimal, line, lines, text, lentRow, printed}
+use Rattle.text.specs.Lines.{digits, decimal, line}
+use Rattle.text.proofs.Lengths.{line-few}
+use Rattle.report.specs.Lines.{lines, text, lentRow, printed}
 use Rattle.report.specs.Writing.{Answered}
-use Rattle.report.proofs.Lengths.{line-few}
 
 -- "L 32768" and the newline.
 pub long-length : length (line (code "L") (32_768 ∷ [])) ≡ 8

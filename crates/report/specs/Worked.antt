@@ -11,7 +11,8 @@ use Rattle.packing.specs.SizeClasses.{sizeClass}
 use Rattle.packing.specs.Streams.{widths, lookup, commands, read}
 use Rattle.packing.specs.Run.{numbered, outcomesFrom}
 use Rattle.packing.specs.Worked.{sample}
-use Rattle.report.specs.Lines.{digits, decimal, line, text, lentRow, printed}
+use Rattle.text.specs.Lines.{digits, decimal, line}
+use Rattle.report.specs.Lines.{text, lentRow, printed}
 
 -- A text as bytes.
 unfoldable pub bytes : String → List ℕ

@@ -1,6 +1,5 @@
 // The text that the program `shelve` prints of a stream, in a row of bytes that the caller lends.
 mod answers;
-mod line;
 
 use packing::StreamResult;
 ghost use mathlib.Core.Path.{_≡_};
@@ -17,17 +16,17 @@ pub fn print(stream: &[u8], out: &mut [u8; N]) -> usize
     ensures bytes { λ _. ⌜ now (out .exit) ≡ printed (now (stream .entry)) ++ drop (length (printed (now (stream .entry)))) (now (out .entry)) ⌝ }
 {
     if 32768 < stream.len() {
-        return line::put_short_line(out, 0, b'L', 32768);
+        return text::put_short_line(out, 0, b'L', 32768);
     }
     let mut words = [0u16; 4096];
     match stream::shelve(stream, &mut words) {
         StreamResult::Refused { reason, offset } => {
             let number = packing::stream_number(reason) as usize;
-            line::put_line(out, 0, b'X', number, offset)
+            text::put_line(out, 0, b'X', number, offset)
         }
         StreamResult::Accepted { items, opened } => {
             let end = answers::put_answers(stream, &words, out);
-            line::put_line(out, end, b'T', items, opened)
+            text::put_line(out, end, b'T', items, opened)
         }
     }
 }

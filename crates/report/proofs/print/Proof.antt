@@ -1,4 +1,4 @@
--- `print` meets its contract: each way out prints what the stream's length and verdict tell, and the row has room for it. Assumes nothing.
+-- `print` meets its contract: each way out prints what the stream's length and verdict tell, and the row has room for it.
 use mathlib.Core.Path.{_≡_, sym, ap, _∙_}
 use mathlib.Core.List.{List, [], _∷_, _++_}
 use Prim.Native.Nat.{ℕ, _≤_}
@@ -11,8 +11,9 @@ use Rattle.packing.specs.declared.StreamResult.the-variants.{Accepted}
 use Rattle.packing.specs.Refusals.{streamNumber}
 use Rattle.packing.specs.Streams.{verdict}
 use Rattle.packing.specs.Run.{answers, result}
-use Rattle.report.specs.Lines.{line, lines, printed, lentRow}
-use Rattle.report.proofs.Rows.{at-front, wrote-both}
+use Rattle.text.specs.Lines.{line}
+use Rattle.text.proofs.Rows.{at-front, wrote-both}
+use Rattle.report.specs.Lines.{lines, printed, lentRow}
 use Rattle.report.proofs.Texts.{long-length, refusal-few, printed-long, printed-refused, answered, totals-few, printed-accepted}
 use Rattle.report.proofs.print.Statement.{statement}
 use Rattle.report.proofs.print.Tie as tie

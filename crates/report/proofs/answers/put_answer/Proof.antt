@@ -1,33 +1,63 @@
--- `put_answer` meets its contract: each arm prints the line that its tests tell. Assumes nothing.
-use mathlib.Core.Path.{_≡_}
+-- `put_answer` meets its contract: each arm prints the line of its case.
+use mathlib.Core.Path.{_≡_, sym, ap, _∙_}
 use mathlib.Core.List.{[], _∷_}
-use Prim.Native.Nat.{_-_}
 use Prim.Native.Char.{code}
 use borrow.Author.Needs.{needs}
-use Rattle.report.specs.Lines.{line}
-use Rattle.report.specs.Writing.{wordLine}
-use Rattle.report.proofs.Words.{placed-line, refused-line, counted-line}
+use Rattle.text.specs.Lines.{line}
+use Rattle.report.specs.Lines.{lineOf, answerLine}
 use Rattle.report.proofs.answers.put_answer.Statement.{statement}
 use Rattle.report.proofs.answers.put_answer.Tie as tie
 
--- The entry, and what is printed, by the arm.
-abbrev start : tie.After-enum-told → tie.Start
+-- What each arm prints.
+abbrev start : tie.After-outcome → tie.Start
 start c = c .before .before .before
 
-placed : (c : tie.Then1) → let a = start (c .before) .args in wordLine (a .number) (a .command) (a .word) ≡ line (code "P") (a .number ∷ a .word ∷ [])
-placed c = placed-line _ _ _ (c .before .enum-told .given .0 .0) (c .before .enum-told .given .1) (c .if1 .taken)
+placed : (c : tie.After-outcome) → answerLine (start c .args .answer) ≡ line (code "P") (start c .args .answer .number ∷ c .outcome .given .0 .0 ∷ [])
+placed c = ap (lineOf (start c .args .answer .number)) (c .outcome .given .1)
 
-refused : (c : tie.Else1) → let a = start (c .before) .args in wordLine (a .number) (a .command) (a .word) ≡ line (code "R") (a .number ∷ (a .word - 32768) ∷ [])
-refused c = refused-line _ _ _ (c .before .enum-told .given .0 .0) (c .before .enum-told .given .1) (c .if1 .left)
+counted : (c : tie.After-outcome2) → let a = c .before .before .before .args .answer in answerLine a ≡ line (code "C") (a .number ∷ c .outcome2 .given .0 .0 ∷ [])
+counted c = ap (lineOf (c .before .before .before .args .answer .number)) (c .outcome2 .given .1)
 
-counted : (c : tie.After-enum-told2) → let a = c .before .before .before .args in wordLine (a .number) (a .command) (a .word) ≡ line (code "C") (a .number ∷ a .word ∷ [])
-counted c = counted-line _ _ _ (c .enum-told2 .given .1)
+refused : (c : tie.After-item-number) → let a = c .before .before .before .before .before .args .answer in answerLine a ≡ line (code "R") (a .number ∷ c .item-number .result ∷ [])
+refused c =
+    let a = c .before .before .before .before .before .args .answer in
+    ap (lineOf (a .number)) (c .before .before .outcome3 .given .1) ∙ ap (λ n. line (code "R") (a .number ∷ n ∷ [])) (sym (c .item-number .ensures))
 
-enum-told : tie.Need-enum-told
-enum-told c = search needs
+enum-known-outcome : tie.Need-enum-known-outcome
+enum-known-outcome c = search needs
+
+cast-bin : tie.Need-cast-bin
+cast-bin c = search needs
 
 put-line-requires : tie.Need-put-line-requires
-put-line-requires c κs = rw (placed (c .before)) at (start (c .before .before) .pre)
+put-line-requires c κs =
+    let o = c .before .before in
+    rw (placed o) at (start o .pre)
+
+enum-known-outcome-2 : tie.Need-enum-known-outcome-2
+enum-known-outcome-2 c = search needs
+
+cast-opened : tie.Need-cast-opened
+cast-opened c = search needs
+
+put-line-requires-2 : tie.Need-put-line-requires-2
+put-line-requires-2 c κs =
+    let o = c .before .before in
+    rw (counted o) at (o .before .before .before .pre)
+
+enum-known-outcome-3 : tie.Need-enum-known-outcome-3
+enum-known-outcome-3 c = search needs
+
+item-number-requires : tie.Need-item-number-requires
+item-number-requires c κs = search needs
+
+cast-refusal : tie.Need-cast-refusal
+cast-refusal c = search needs
+
+put-line-requires-3 : tie.Need-put-line-requires-3
+put-line-requires-3 c κs =
+    let n = c .before in
+    rw (refused n) at (n .before .before .before .before .before .pre)
 
 same-length : tie.Need-same-length
 same-length c = search needs
@@ -35,19 +65,7 @@ same-length c = search needs
 returns : tie.Need-returns
 returns c =
     let p = c .before .before in
-    rw (placed (p .before .before)) (p .put-line .ensures)
-
-cast-refusal : tie.Need-cast-refusal
-cast-refusal c = search needs
-
-put-line-requires-2 : tie.Need-put-line-requires-2
-put-line-requires-2 c κs = rw (refused (c .before)) at (start (c .before .before) .pre)
-
-enum-told-2 : tie.Need-enum-told-2
-enum-told-2 c = search needs
-
-put-line-requires-3 : tie.Need-put-line-requires-3
-put-line-requires-3 c κs = rw (counted (c .before)) at (c .before .before .before .before .pre)
+    rw (placed (p .before .before .before)) (p .put-line .ensures)
 
 same-length-2 : tie.Need-same-length-2
 same-length-2 c = search needs
@@ -55,7 +73,7 @@ same-length-2 c = search needs
 returns-2 : tie.Need-returns-2
 returns-2 c =
     let p = c .before .before in
-    rw (refused (p .before .before)) (p .put-line2 .ensures)
+    rw (counted (p .before .before .before)) (p .put-line2 .ensures)
 
 same-length-3 : tie.Need-same-length-3
 same-length-3 c = search needs
@@ -63,20 +81,24 @@ same-length-3 c = search needs
 returns-3 : tie.Need-returns-3
 returns-3 c =
     let p = c .before .before in
-    rw (counted (p .before .before)) (p .put-line3 .ensures)
+    rw (refused (p .before .before)) (p .put-line3 .ensures)
 
 pub put-answer-spec : {M : Type 1} → statement M
 put-answer-spec =
     tie.close
     (tie.spec
-    enum-told
+    enum-known-outcome
+    cast-bin
     put-line-requires
+    enum-known-outcome-2
+    cast-opened
+    put-line-requires-2
+    enum-known-outcome-3
+    item-number-requires
+    cast-refusal
+    put-line-requires-3
     same-length
     returns
-    cast-refusal
-    put-line-requires-2
-    enum-told-2
-    put-line-requires-3
     same-length-2
     returns-2
     same-length-3

@@ -1,7 +1,7 @@
 // Lines of text, written into a row of bytes. Each function takes the place where its text begins and answers the place behind it.
 ghost use mathlib.Core.List.{_∷_, []};
-ghost use Rattle.report.specs.Lines.{decimal, figure, figures, line};
-ghost use Rattle.report.specs.Writing.{Room, Wrote};
+ghost use Rattle.text.specs.Lines.{decimal, figure, figures, line};
+ghost use Rattle.text.specs.Writing.{Room, Wrote};
 
 fn put_byte(out: &mut [u8], at: usize, byte: u8) -> usize
     requires { ⌜ Room (now out) at (byte ∷ []) ⌝ }

@@ -1,10 +1,10 @@
--- `put_short_line` meets its contract: the letter, and behind it the one figure with the newline. Assumes nothing.
+-- `put_short_line` meets its contract: the letter, and behind it the one figure with the newline.
 use mathlib.Core.List.{[], _∷_}
 use borrow.Author.Needs.{needs}
-use Rattle.report.specs.Lines.{figures, line}
-use Rattle.report.proofs.Rows.{room-first, room-second, wrote-both}
-use Rattle.report.proofs.line.put_short_line.Statement.{statement}
-use Rattle.report.proofs.line.put_short_line.Tie as tie
+use Rattle.text.specs.Lines.{figures, line}
+use Rattle.text.proofs.Rows.{room-first, room-second, wrote-both}
+use Rattle.text.proofs.put_short_line.Statement.{statement}
+use Rattle.text.proofs.put_short_line.Tie as tie
 
 put-byte-requires : tie.Need-put-byte-requires
 unfolding line

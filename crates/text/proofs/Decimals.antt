@@ -1,4 +1,4 @@
--- Numbers in base ten: the digits by tens and ones, how many there are, and what they are read as. Assumes nothing.
+-- Numbers in base ten: the digits by tens and ones, how many there are, and what they are read as.
 use mathlib.Core.Path.{_≡_, sym, ap, _∙_}
 use mathlib.Core.List.{List, [], _∷_, _++_, foldl, foldl-append}
 use Prim.Native.Nat.{ℕ, zero, suc, _+_, _*_, _-_, _/_, _%_, _^_, _≤_, _<_}
@@ -7,7 +7,7 @@ use native.Mathlib.Omega.{arith}
 use native.Mathlib.Decide.{decLe}
 use borrow.Author.Tests.{lt-ltb, le-ltb}
 use lib.ListN.{length, getD, length-append, List·getD-append}
-use Rattle.report.specs.Lines.{digit, digits, decimal}
+use Rattle.text.specs.Lines.{digit, digits, decimal}
 
 digits-one : (most n : ℕ) → n < 10 → digits (suc most) n ≡ digit n ∷ []
 unfolding digits

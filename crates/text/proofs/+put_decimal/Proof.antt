@@ -1,4 +1,4 @@
--- `put_decimal` meets its contract: the digits of a number are those of its tens and then its ones. The measure is the number. Assumes nothing.
+-- `put_decimal` meets its contract: the digits of a number are those of its tens and then its ones. The measure is the number.
 use mathlib.Core.Path.{ap, _∙_}
 use mathlib.Core.List.{[], _∷_}
 use Prim.Native.Nat.{ℕ, _/_, _%_, _<_}
@@ -6,15 +6,15 @@ use native.Mathlib.Omega.{arith}
 use lib.ListN.{length}
 use borrow.Fn.Kinds.{In}
 use borrow.Fn.PlainCycle.{Measures, is, falls, and}
-use Rattle.report.specs.Lines.{digit, decimal}
-use Rattle.report.proofs.Decimals.{decimal-small, decimal-large}
-use Rattle.report.proofs.Rows.{room-first, room-second, wrote-both}
-use Rattle.report.proofs.line.put_decimal.Reads as put-decimal
-use Rattle.report.proofs.line.put_decimal.Kinds as put-decimal-kinds
-use Rattle.report.proofs.line.+put_decimal.Lts-put_decimal as put-decimal-lts
-use Rattle.report.proofs.line.put_byte.Reads as put-byte-reads
-use Rattle.report.proofs.line.+put_decimal.{statement}
-use Rattle.report.proofs.line.+put_decimal.Tie.{close}
+use Rattle.text.specs.Lines.{digit, decimal}
+use Rattle.text.proofs.Decimals.{decimal-small, decimal-large}
+use Rattle.text.proofs.Rows.{room-first, room-second, wrote-both}
+use Rattle.text.proofs.put_decimal.Reads as put-decimal
+use Rattle.text.proofs.put_decimal.Kinds as put-decimal-kinds
+use Rattle.text.proofs.+put_decimal.Lts-put_decimal as put-decimal-lts
+use Rattle.text.proofs.put_byte.Reads as put-byte-reads
+use Rattle.text.proofs.+put_decimal.{statement}
+use Rattle.text.proofs.+put_decimal.Tie.{close}
 
 abbrev μ-put-decimal : Measures 1 put-decimal-kinds.ps ℕ
 μ-put-decimal κs a = a .1 .1 .0

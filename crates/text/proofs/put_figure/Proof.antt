@@ -1,11 +1,11 @@
--- `put_figure` meets its contract: a space, and behind it the number. Assumes nothing.
+-- `put_figure` meets its contract: a space, and behind it the number.
 use mathlib.Core.List.{[], _∷_}
 use Prim.Native.Char.{code}
 use borrow.Author.Needs.{needs}
-use Rattle.report.specs.Lines.{decimal}
-use Rattle.report.proofs.Rows.{wrote-both}
-use Rattle.report.proofs.line.put_figure.Statement.{statement}
-use Rattle.report.proofs.line.put_figure.Tie as tie
+use Rattle.text.specs.Lines.{decimal}
+use Rattle.text.proofs.Rows.{wrote-both}
+use Rattle.text.proofs.put_figure.Statement.{statement}
+use Rattle.text.proofs.put_figure.Tie as tie
 
 put-byte-requires : tie.Need-put-byte-requires
 put-byte-requires c κs = search needs

@@ -1,10 +1,10 @@
--- `put_last` meets its contract: a figure, and behind it the newline. Assumes nothing.
+-- `put_last` meets its contract: a figure, and behind it the newline.
 use mathlib.Core.List.{[]}
 use borrow.Author.Needs.{needs}
-use Rattle.report.specs.Lines.{figure, figures}
-use Rattle.report.proofs.Rows.{room-first, room-second, wrote-both}
-use Rattle.report.proofs.line.put_last.Statement.{statement}
-use Rattle.report.proofs.line.put_last.Tie as tie
+use Rattle.text.specs.Lines.{figure, figures}
+use Rattle.text.proofs.Rows.{room-first, room-second, wrote-both}
+use Rattle.text.proofs.put_last.Statement.{statement}
+use Rattle.text.proofs.put_last.Tie as tie
 
 put-figure-requires : tie.Need-put-figure-requires
 put-figure-requires c κs =

@@ -1,11 +1,11 @@
--- Texts written one behind the other are their join, written at once. Assumes nothing.
+-- Texts written one behind the other are their join, written at once.
 use mathlib.Core.Path.{_≡_, ap, _∙_}
 use mathlib.Core.List.{List, [], _∷_, _++_}
 use Prim.Native.Nat.{ℕ, suc, _+_}
 use native.Mathlib.Omega.{arith}
 use lib.ListN.{length, drop, set, length-append}
 use lib.Seq.{sets, length-sets, sets-eq}
-use Rattle.report.specs.Writing.{Room, Wrote}
+use Rattle.text.specs.Writing.{Room, Wrote}
 
 pub sets-append : (row : List ℕ) (at : ℕ) (x y : List ℕ) → sets (sets row at x) (at + length x) y ≡ sets row at (x ++ y)
 sets-append row at [] y = ap (λ (k : ℕ). sets row k y) (omega arith)

@@ -1,12 +1,12 @@
--- `put_line` meets its contract: the letter, behind it the first figure, and behind that the second with the newline. Assumes nothing.
+-- `put_line` meets its contract: the letter, behind it the first figure, and behind that the second with the newline.
 use mathlib.Core.List.{List, [], _∷_}
 use Prim.Native.Nat.{ℕ}
 use borrow.Author.Needs.{needs}
-use Rattle.report.specs.Lines.{figure, figures, line}
-use Rattle.report.specs.Writing.{Room}
-use Rattle.report.proofs.Rows.{room-first, room-second, wrote-both}
-use Rattle.report.proofs.line.put_line.Statement.{statement}
-use Rattle.report.proofs.line.put_line.Tie as tie
+use Rattle.text.specs.Lines.{figure, figures, line}
+use Rattle.text.specs.Writing.{Room}
+use Rattle.text.proofs.Rows.{room-first, room-second, wrote-both}
+use Rattle.text.proofs.put_line.Statement.{statement}
+use Rattle.text.proofs.put_line.Tie as tie
 
 abbrev start : tie.After-put-byte → tie.Start
 start c = c .before .before .before
