@@ -1,4 +1,4 @@
--- A plan laid in columns: the entries that are laid so far, and what the columns then come to. Assumes nothing.
+-- A plan laid in columns: the entries that are laid so far, and what the columns then come to.
 use mathlib.Core.Path.{_≡_, refl, sym, ap, _∙_}
 use mathlib.Core.List.{List, [], _∷_, zipWith}
 use Prim.Native.Nat.{ℕ, zero, suc, min, _+_, _≤_, _<_}

@@ -1,4 +1,4 @@
--- A plan's entries laid in two columns, a size and a bin number for each, as the core takes them. Assumes nothing.
+-- A plan's entries laid in two columns, a size and a bin number for each, as the core takes them.
 use mathlib.Core.Path.{_≡_}
 use mathlib.Core.List.{List}
 use Prim.Native.Nat.{ℕ}

@@ -3,7 +3,9 @@ use packing::Entry;
 use packing::PlanResult;
 ghost use mathlib.Core.Path.{_≡_};
 ghost use lib.ListN.{take};
+ghost use Rattle.packing.specs.Refusals.{planGives};
 ghost use Rattle.packing.specs.Plans.{check};
+ghost use Rattle.worst_case.specs.PlanFits.{Exact};
 ghost use Rattle.plan_rows.specs.Order.{limits};
 ghost use Rattle.plan.specs.Columns.{rowsToLay, Wide, Answers};
 
@@ -46,7 +48,8 @@ fn check_columns(
 // "A plan is a row of entries, each a size and a cartridge number": the plan checker of document 01. The entries are laid in two columns,
 // which the core checks.
 pub fn check_plan(plan: &[Entry], items: &[u32], capacity: u32, k: u32) -> PlanResult
-    ensures { λ r. ⌜ r ≡ check capacity k (now (plan .entry)) (now (items .entry)) ⌝ }
+    ensures result { λ r. ⌜ planGives r ≡ planGives (check capacity k (now (plan .entry)) (now (items .entry))) ⌝ }
+    ensures exact { λ r. ⌜ Exact capacity k (now (plan .entry)) (now (items .entry)) r ⌝ }
 {
     let rows = plan.len();
     let laid = rows_to_lay(capacity, k, rows, items.len());
@@ -70,7 +73,8 @@ pub struct HeldPlan {
 
 // The entries are lent to the checker. No parameter is a `&[Entry]`, so whoever calls this needs no walk of its own.
 pub fn check_held_plan(plan: HeldPlan, items: &[u32], capacity: u32, k: u32) -> PlanResult
-    ensures { λ r. ⌜ r ≡ check capacity k (take (plan .len) (plan .entries)) (now (items .entry)) ⌝ }
+    ensures result { λ r. ⌜ planGives r ≡ planGives (check capacity k (take (plan .len) (plan .entries)) (now (items .entry))) ⌝ }
+    ensures exact { λ r. ⌜ Exact capacity k (take (plan .len) (plan .entries)) (now (items .entry)) r ⌝ }
 {
     let entries = plan.entries;
     let len = plan_rows::shorter(plan.len, 4097);

@@ -1,13 +1,15 @@
--- The model's fault of an entry, by what its tests leave, in document 01's order: 16, 13, 14, 15. Assumes nothing.
+-- The model's fault of an entry, by what its tests leave, in document 01's order: 16, 13, 14, 15.
 use mathlib.Core.Path.{_≡_, refl}
+use mathlib.Core.Bool.{true, false}
 use mathlib.Core.Option.{some, none}
 use mathlib.Core.List.{List, _∷_}
 use Prim.Native.Nat.{ℕ, _+_, _≤_, _<_}
 use native.Mathlib.Omega.{arith}
-use borrow.Author.Tests.{lt-ltb, le-ltb, le-leb, lt-leb, eq-eqb, ne-eqb}
+use borrow.Author.Tests.{lt-ltb, le-ltb, eq-eqb, ne-eqb}
 use Rattle.packing.specs.declared.{Entry.Entry}
 use Rattle.packing.specs.declared.PlanReason.the-variants.{SizeOutside, BinOutside, Overfull, OtherItems}
 use Rattle.packing.specs.Prelude.{total}
+use Rattle.packing.specs.Limits.{within}
 use Rattle.packing.specs.Plans.{onBin, fault}
 
 -- An entry counts for its own bin and for no other.
@@ -27,30 +29,22 @@ module _ (capacity k : ℕ) (e : Entry) (s : ℕ) where
 
   module _ (same : e .size ≡ s) where
     -- 13
-    pub no-size : e .size ≡ 0 → (before : List Entry) → fault capacity k before e s ≡ some SizeOutside
+    pub size-outside : within 1 capacity (e .size) ≡ false → (before : List Entry) → fault capacity k before e s ≡ some SizeOutside
     unfolding fault
-    no-size h before = simp (eq-eqb (e .size) s same, lt-leb 1 (e .size) (omega arith))
+    size-outside h before = rw (eq-eqb (e .size) s same, h)
 
-    pub large-size : capacity < e .size → (before : List Entry) → fault capacity k before e s ≡ some SizeOutside
-    unfolding fault
-    large-size h before = simp (eq-eqb (e .size) s same, le-leb 1 (e .size) (omega arith), lt-leb (e .size) capacity h)
-
-    module _ (some-size : 1 ≤ e .size) (fits : e .size ≤ capacity) where
+    module _ (fits : within 1 capacity (e .size) ≡ true) where
       -- 14
-      pub no-bin : e .bin ≡ 0 → (before : List Entry) → fault capacity k before e s ≡ some BinOutside
+      pub bin-outside : within 1 k (e .bin) ≡ false → (before : List Entry) → fault capacity k before e s ≡ some BinOutside
       unfolding fault
-      no-bin h before = simp (eq-eqb (e .size) s same, le-leb 1 (e .size) some-size, le-leb (e .size) capacity fits, lt-leb 1 (e .bin) (omega arith))
+      bin-outside h before = rw (eq-eqb (e .size) s same, fits, h)
 
-      pub large-bin : k < e .bin → (before : List Entry) → fault capacity k before e s ≡ some BinOutside
-      unfolding fault
-      large-bin h before = simp (eq-eqb (e .size) s same, le-leb 1 (e .size) some-size, le-leb (e .size) capacity fits, le-leb 1 (e .bin) (omega arith), lt-leb (e .bin) k h)
-
-      module _ (some-bin : 1 ≤ e .bin) (low : e .bin ≤ k) where
+      module _ (low : within 1 k (e .bin) ≡ true) where
         -- 15
         pub overfull : (before : List Entry) → capacity < onBin (e .bin) (e ∷ before) → fault capacity k before e s ≡ some Overfull
         unfolding fault
-        overfull before h = simp (eq-eqb (e .size) s same, le-leb 1 (e .size) some-size, le-leb (e .size) capacity fits, le-leb 1 (e .bin) some-bin, le-leb (e .bin) k low, lt-ltb capacity (onBin (e .bin) (e ∷ before)) h)
+        overfull before h = rw (eq-eqb (e .size) s same, fits, low, lt-ltb capacity (onBin (e .bin) (e ∷ before)) h)
 
         pub sound : (before : List Entry) → onBin (e .bin) (e ∷ before) ≤ capacity → fault capacity k before e s ≡ none
         unfolding fault
-        sound before h = simp (eq-eqb (e .size) s same, le-leb 1 (e .size) some-size, le-leb (e .size) capacity fits, le-leb 1 (e .bin) some-bin, le-leb (e .bin) k low, le-ltb capacity (onBin (e .bin) (e ∷ before)) h)
+        sound before h = rw (eq-eqb (e .size) s same, fits, low, le-ltb capacity (onBin (e .bin) (e ∷ before)) h)

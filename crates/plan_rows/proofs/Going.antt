@@ -1,5 +1,4 @@
 -- The walk over the entries: what is still to come, with the entries that the loads stand for before it, is what the whole plan comes to.
--- Assumes nothing.
 use mathlib.Core.Path.{_≡_, refl, sym, ap, _∙_}
 use mathlib.Core.Option.{Option, some, none}
 use mathlib.Core.List.{List, [], _∷_}

@@ -1,4 +1,4 @@
--- Each way out of the limits' test, over plain numbers. Assumes nothing.
+-- Each way out of the limits' test, over plain numbers.
 use mathlib.Core.Path.{_≡_}
 use Prim.Native.Nat.{ℕ, _+_, min, _≤_, _<_}
 use native.Mathlib.Decide.{ℕ-discrete, decLe}

@@ -1,5 +1,6 @@
--- What the step at one entry leaves, at a fault and at none: the loads at exit stand for one entry more only where it is sound. Assumes nothing.
+-- What the step at one entry leaves, at a fault and at none: the loads at exit stand for one entry more only where it is sound.
 use mathlib.Core.Path.{_≡_, refl, sym, ap, _∙_}
+use mathlib.Core.Bool.{true}
 use mathlib.Core.Option.{some}
 use mathlib.Core.List.{List, _∷_}
 use Prim.Native.Nat.{ℕ, _+_, _≤_, _<_}
@@ -9,7 +10,9 @@ use lib.ListN.{length, getD, set, length-set}
 use lib.Seq.{getD-set-same, getD-set-other}
 use Rattle.packing.specs.declared.{Entry.Entry, PlanReason.PlanReason}
 use Rattle.packing.specs.declared.PlanReason.the-variants.{Overfull}
+use Rattle.packing.specs.Limits.{within, mostRows}
 use Rattle.packing.specs.Plans.{onBin, fault}
+use Rattle.packing.proofs.Limits.{within-limits}
 use Rattle.plan_rows.specs.declared.EntryResult.the-variants.{Sound, Faulty}
 use Rattle.plan_rows.specs.Loads.{Room, Represents, finding, Checked}
 use Rattle.plan_rows.proofs.Faults.{on-own, on-other, overfull, sound}
@@ -26,22 +29,25 @@ module _ (capacity k : ℕ) (loads : List ℕ) (e : Entry) (s : ℕ) (room : Roo
   pub faulty : (reason : PlanReason) → ((before : List Entry) → fault capacity k before e s ≡ some reason) → Checked capacity k loads e s (Faulty reason) loads
   faulty reason f = at-fault reason (λ before r. f before)
 
-  module _ (same : e .size ≡ s) (some-size : 1 ≤ e .size) (fits : e .size ≤ capacity) (some-bin : 1 ≤ e .bin) (low : e .bin ≤ k) where
+  module _ (same : e .size ≡ s) (fits : within 1 capacity (e .size) ≡ true) (low : within 1 k (e .bin) ≡ true) where
+    bin-most : e .bin ≤ mostRows
+    bin-most = omega (arith, within-limits 1 k (e .bin) low, room .k-most)
+
     -- the load of the entry's bin with the entry
     abbrev sum : ℕ
     sum = getD loads (e .bin) 0 + e .size
 
     summed : (before : List Entry) → Represents loads before → onBin (e .bin) (e ∷ before) ≡ sum
-    summed before r = omega (arith, on-own e before, r (e .bin) (omega (arith, room .k-most)))
+    summed before r = omega (arith, on-own e before, r (e .bin) bin-most)
 
     pub too-much : capacity < sum → Checked capacity k loads e s (Faulty Overfull) loads
-    too-much h = at-fault Overfull (λ before r. overfull capacity k e s same some-size fits some-bin low before (omega (arith, summed before r)))
+    too-much h = at-fault Overfull (λ before r. overfull capacity k e s same fits low before (omega (arith, summed before r)))
 
     abbrev exit : List ℕ
     exit = set loads (e .bin) sum
 
     inside : e .bin < length loads
-    inside = omega (arith, room .places, room .k-most)
+    inside = omega (arith, room .places, bin-most)
 
     pub taken : sum ≤ capacity → Checked capacity k loads e s Sound exit
     taken h = record {
@@ -51,7 +57,7 @@ module _ (capacity k : ℕ) (loads : List ℕ) (e : Entry) (s : ℕ) (room : Roo
         places = length-set loads (e .bin) sum ∙ room .places;
         not-overfull = kept;
       };
-      answered = λ before r. sym (ap finding (sound capacity k e s same some-size fits some-bin low before (omega (arith, summed before r))));
+      answered = λ before r. sym (ap finding (sound capacity k e s same fits low before (omega (arith, summed before r))));
       added = λ q before r n l. stands before r n l;
       refused = λ reason q. let z : _≡_ {A = ℕ} 0 1 = cc in absurd (omega arith);
     }

@@ -1,4 +1,4 @@
--- The whole check is the limits' test, and where it passes the entries. Assumes nothing.
+-- The whole check is the limits' test, and where it passes the entries.
 use mathlib.Core.Path.{_≡_, refl, sym, ap, _∙_}
 use mathlib.Core.Bool.{Bool, true, false, not}
 use mathlib.Core.List.{List, [], _∷_}

@@ -1,4 +1,4 @@
--- The plan of two rows, place by place. Assumes nothing.
+-- The plan of two rows, place by place.
 use mathlib.Core.Path.{_≡_, refl}
 use mathlib.Core.List.{List, [], _∷_, zipWith}
 use Prim.Native.Nat.{ℕ, zero, suc, min, _<_}

@@ -1,4 +1,4 @@
--- The row of loads that the checker keeps, and what the step at one entry does with it. Assumes nothing.
+-- The row of loads that the checker keeps, and what the step at one entry does with it.
 use mathlib.Core.Path.{_≡_}
 use mathlib.Core.Option.{Option, none, some}
 use mathlib.Core.List.{List, _∷_}

@@ -1,4 +1,4 @@
--- What is tested before the entries are walked. Assumes nothing.
+-- What is tested before the entries are walked.
 use mathlib.Core.Path.{_≡_}
 use mathlib.Core.Bool.{not}
 use mathlib.Core.List.{List, [], _∷_}

@@ -1,4 +1,4 @@
--- The plan of two number rows. Assumes nothing.
+-- The plan of two number rows.
 use mathlib.Core.List.{List, zipWith}
 use Prim.Native.Nat.{ℕ}
 use Rattle.packing.specs.declared.{Entry.Entry}

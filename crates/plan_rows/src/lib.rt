@@ -55,15 +55,15 @@ pub fn check_limits(capacity: u32, k: u32, rows: usize, items: usize) -> PlanRes
     if MOST_ROWS < items {
         return too_long;
     }
-    if rows != items {
-        let least = shorter(rows, items);
-        let place = least + 1;
-        return PlanResult::Refused {
-            reason: PlanReason::OtherItems,
-            place,
-        };
+    if rows == items {
+        return PlanResult::Passed;
     }
-    PlanResult::Passed
+    let least = shorter(rows, items);
+    let place = least + 1;
+    PlanResult::Refused {
+        reason: PlanReason::OtherItems,
+        place,
+    }
 }
 
 // One entry, where the loads are those of the entries before it and the item at its place has this size: 16, 13, 14, 15. A sound entry's
@@ -83,16 +83,12 @@ fn check_entry(
     if size != item {
         return EntryResult::Faulty(PlanReason::OtherItems);
     }
-    if size == 0 {
+    let size_good = packing::is_within(1, capacity, size);
+    if !size_good {
         return EntryResult::Faulty(PlanReason::SizeOutside);
     }
-    if capacity < size {
-        return EntryResult::Faulty(PlanReason::SizeOutside);
-    }
-    if bin == 0 {
-        return EntryResult::Faulty(PlanReason::BinOutside);
-    }
-    if k < bin {
+    let bin_good = packing::is_within(1, k, bin);
+    if !bin_good {
         return EntryResult::Faulty(PlanReason::BinOutside);
     }
     let at = bin as usize;

@@ -1,4 +1,4 @@
--- `check_columns` meets its contract: the limits' test, and where it passes the core on the columns' first places. Assumes nothing.
+-- `check_columns` meets its contract: the limits' test, and where it passes the core on the columns' first places.
 use mathlib.Core.Path.{sym}
 use lib.Seq.{length-take-le}
 use Rattle.plan.proofs.Laying.{enough-places, columns-checked, columns-refused}

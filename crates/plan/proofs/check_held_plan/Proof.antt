@@ -1,5 +1,5 @@
 -- `check_held_plan` meets its contract: a walk of its code, by hand. The array of entries is copied to a local in memory, and its first places are lent,
--- as a slice, for a lifetime that is made for the call and ended after it. Assumes nothing.
+-- as a slice, for a lifetime that is made for the call and ended after it.
 use mathlib.Core.Path.{_≡_, refl, sym, _∙_, ap}
 use Prim.Native.Nat.{ℕ, zero, suc, min, _+_, _<_, _^_}
 use native.Mathlib.Omega.{arith}
@@ -45,12 +45,16 @@ use denote.Triple.Call.{calls-at}
 use denote.Triple.Entry.{Vals, onEntry}
 use denote.Triple.Spec.{Meets, tripleOf}
 use denote.Triple.Table.{entered, cited}
-use denote.Triple.Walked.{says, Stays, stay-none-slice, stay-none, walkOf, goes-none-slice, goes-none, Walks, ends-at, walked, walk-meets}
+use denote.Triple.Walked.{Stays, stay-none-slice, stay-none, walkOf, goes-none-slice, goes-none, Walks, ends-at, walked, walk-meets}
 use denote.Triple.Clauses.{ensured, lasts}
 use denote.Exit.{yes}
 use borrow.Rule.Array.Init.{part-room}
 use Rattle.packing.specs.declared.{Entry.Entry, PlanResult.PlanResult}
+use Rattle.packing.specs.Refusals.{planGives}
 use Rattle.packing.specs.Plans.{check}
+use Rattle.packing.proofs.Given.{plan-gives-back}
+use Rattle.worst_case.specs.PlanFits.{Exact}
+use Rattle.worst_case.proofs.PlanFits.{exact-as}
 use Rattle.packing.proofs.Entry as E
 use Rattle.packing.proofs.Entry.Laws as E′
 use Rattle.packing.proofs.PlanResult as D
@@ -59,7 +63,7 @@ use Rattle.plan.specs.declared.HeldPlan.{HeldPlan}
 use Rattle.plan.proofs.HeldPlan as R
 use Rattle.plan.proofs.HeldPlan.Laws as R′
 use Rattle.plan.proofs.Laying.{take-min}
-use Rattle.plan.proofs.Machine.{one, big-lit}
+use Rattle.plan.proofs.Machine.{one, big-lit, says-both, first-clause}
 use Rattle.plan_rows.proofs.shorter as shorter
 use Rattle.plan_rows.proofs.shorter.Symbol as shorter-def
 use Rattle.plan_rows.proofs.shorter.Symbol.{name as #plan-rows·shorter}
@@ -163,7 +167,7 @@ module _ {M : Type 1} (𝓤 : URA M) (H : Heap 𝓤) (A : Atoms 𝓤) (W : Given
   exits : (v : PlanResult) (u : Val) → v ≡ check cap k (take (p .len) xs) (now ms) → ent 𝓤 (⋆ 𝓤 H A (‵ (flft κ q) ∷ ‵ Items ∷ ‵ (D.the-row .own v (u ∷ [])) ∷ [])) (Post u)
   exits v u e =
       qed W (‵ (flft κ q) ∷ ‵ Items ∷ ‵ (D.the-row .own v (u ∷ [])) ∷ []) ∵
-      suffices ! _ (ends-at 𝓤 H A held.ended stayed (held.clauses 𝓤 H A mem run) W (((κ, tt), (q, tt), tt, (p, (ms, (cap, (k, tt)))), at), tt) u v (tt, (tt, (tt, (tt, tt)))) (tt, (tt, (tt, (tt, tt))))) $ says ! e $
+      suffices ! _ (ends-at 𝓤 H A held.ended stayed (held.clauses 𝓤 H A mem run) W (((κ, tt), (q, tt), tt, (p, (ms, (cap, (k, tt)))), at), tt) u v (tt, (tt, (tt, (tt, tt)))) (tt, (tt, (tt, (tt, tt))))) $ says-both ! (ap planGives e) (exact-as cap k (take (p .len) xs) (now ms) v e) $
       nothing ! $ move ! (1 ∷ 0 ∷ []) $ join ! $ frame ! $
       nothing ! $ owned ! u32 (Is u32) (uint-makes 𝓤 H A W w32) k _ (refl, gk) $ fjoin ! $ owned ! u32 (Is u32) (uint-makes 𝓤 H A W w32) cap _ (refl, gc) $ fjoin ! $ move ! (1 ∷ 0 ∷ []) $ fjoin ! $
       owned ! R.the-row (Is R.the-row) (LL.makes R.the-type R′.the-plain 𝓤 H A) p (mach ∷ []) is $ fjoin ! $ frame ! $ done !
@@ -216,7 +220,12 @@ module _ {M : Type 1} (𝓤 : URA M) (H : Heap 𝓤) (A : Atoms 𝓤) (W : Given
         move ! (3 ∷ 0 ∷ []) $ fjoin ! $ move ! (2 ∷ 0 ∷ []) $ fjoin ! $ move ! (1 ∷ 0 ∷ []) $ join ! $ frame ! $ done !
 
     said : (ν : Lft) (l : ℕ) (δ : GName) (v : PlanResult) → ent 𝓤 (ensured 𝓤 H A check-plan.ended (check-plan.clauses 𝓤 H A mem run) (ν, (κ, tt)) (plan l δ, (ms, (cap, (k, tt)))) tt v) (fact 𝓤 (v ≡ check cap k ys (now ms)))
-    said ν l δ v = exE 𝓤 _ (λ ws. snd∗ 𝓤 (sem 𝓤 H A (lasts check-plan.ended (ν, (κ, tt)) (plan l δ, (ms, (cap, (k, tt)))) ws)) (fact 𝓤 (v ≡ check cap k ys (now ms))))
+    said ν l δ v =
+        exE 𝓤 _ (λ ws. via 𝓤 (sep 𝓤 (fact 𝓤 Given-as) (fact 𝓤 (Exact cap k ys (now ms) v))) (snd∗ 𝓤 (sem 𝓤 H A (lasts check-plan.ended (ν, (κ, tt)) (plan l δ, (ms, (cap, (k, tt)))) ws)) (sep 𝓤 (fact 𝓤 Given-as) (fact 𝓤 (Exact cap k ys (now ms) v))))
+        (first-clause 𝓤 Given-as (Exact cap k ys (now ms) v) (v ≡ check cap k ys (now ms)) (plan-gives-back v (check cap k ys (now ms)))))
+      where
+        Given-as : Type 0
+        Given-as = planGives v ≡ planGives (check cap k ys (now ms))
 
     same : (v : PlanResult) → v ≡ check cap k ys (now ms) → v ≡ check cap k (take (p .len) xs) (now ms)
     same v e = e ∙ ap (λ (es : List Entry). check cap k es (now ms)) (ap (λ (j : ℕ). take j xs) least ∙ take-min xs (p .len) 4097 long)

@@ -1,5 +1,5 @@
 -- `check_plan` meets its contract: a walk of its code, by hand. The entries that the limits allow are laid in two local columns (./Proof/Loop.antt),
--- which `check_columns`, a covered function, answers for. Assumes nothing.
+-- which `check_columns`, a covered function, answers for.
 mod Columns
 mod Calls
 mod Loop

@@ -1,4 +1,4 @@
--- `rows_to_lay` meets its contract: each arm is the definition's at what the limits' test answers. Assumes nothing.
+-- `rows_to_lay` meets its contract: each arm is the definition's at what the limits' test answers.
 use mathlib.Core.Path.{sym, ap, _∙_}
 use Rattle.plan.specs.Columns.{rowsToLay}
 use borrow.Author.Needs.{needs}

@@ -1,4 +1,4 @@
--- `held` is safe and ends: each index is below the lengths that are tested. The measure is what is left of the places. Assumes nothing.
+-- `held` is safe and ends: each index is below the lengths that are tested. The measure is what is left of the places.
 use Prim.Native.Nat.{_-_}
 use borrow.Author.Needs.{needs}
 use Rattle.plan_main.proofs.held.Statement.{statement}

@@ -1,4 +1,4 @@
--- `check_entries` meets its contract: the invariant is what is still to come, the measure what is left of the items. Assumes nothing.
+-- `check_entries` meets its contract: the invariant is what is still to come, the measure what is left of the items.
 use mathlib.Core.Path.{refl}
 use Prim.Native.Nat.{_-_}
 use borrow.Author.Needs.{needs}

@@ -1,4 +1,4 @@
--- `check_limits` meets its contract: each way out is the case of the definition that its tests leave. Assumes nothing.
+-- `check_limits` meets its contract: each way out is the case of the definition that its tests leave.
 use mathlib.Core.Path.{sym, ap, _∙_}
 use Prim.Native.Nat.{ℕ, _+_}
 use native.Mathlib.Omega.{arith}
@@ -24,19 +24,19 @@ returns-4 c = sym (long-plan _ _ _ _ (omega arith) (omega arith) (omega arith) (
 returns-5 : tie.Need-returns-5
 returns-5 c = sym (many-items _ _ _ _ (omega arith) (omega arith) (omega arith) (omega arith) (c .if5 .taken))
 
+returns-6 : tie.Need-returns-6
+returns-6 c = sym (within-limits _ _ _ _ (omega arith) (omega arith) (omega arith) (omega arith) (omega arith) (c .if6 .taken))
+
 shorter-requires : tie.Need-shorter-requires
 shorter-requires c κs = search needs
 
 add-place : tie.Need-add-place
 add-place c = search needs
 
-returns-6 : tie.Need-returns-6
-returns-6 c =
-    ap (λ (n : ℕ). PlanResult.Refused OtherItems (n + 1)) (c .shorter .ensures)
-    ∙ sym (other-length _ _ _ _ (omega arith) (omega arith) (omega arith) (omega arith) (omega arith) (c .before .if6 .taken))
-
 returns-7 : tie.Need-returns-7
-returns-7 c = sym (within-limits _ _ _ _ (omega arith) (omega arith) (omega arith) (omega arith) (omega arith) (c .if6 .left))
+returns-7 c =
+    ap (λ (n : ℕ). PlanResult.Refused OtherItems (n + 1)) (c .shorter .ensures)
+    ∙ sym (other-length _ _ _ _ (omega arith) (omega arith) (omega arith) (omega arith) (omega arith) (c .before .if6 .left))
 
 pub check-limits-spec : {M : Type 1} → statement M
 check-limits-spec =
@@ -47,7 +47,7 @@ check-limits-spec =
     returns-3
     returns-4
     returns-5
+    returns-6
     shorter-requires
     add-place
-    returns-6
     returns-7)

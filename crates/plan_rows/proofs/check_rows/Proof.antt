@@ -1,4 +1,4 @@
--- `check_rows` meets its contract: the limits' test, and where it passes the entries. Assumes nothing.
+-- `check_rows` meets its contract: the limits' test, and where it passes the entries.
 use borrow.Author.Needs.{needs}
 use Rattle.plan_rows.proofs.Whole.{rows-measured, rows-walked, rows-refused}
 use Rattle.plan_rows.proofs.check_rows.Statement.{statement}

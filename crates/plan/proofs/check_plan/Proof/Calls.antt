@@ -1,4 +1,4 @@
--- The two calls of the walk: what each callee is passed, what it asks and what it says. Assumes nothing.
+-- The two calls of the walk: what each callee is passed, what it asks and what it says.
 use mathlib.Core.Path.{_≡_, refl}
 use Prim.Native.Nat.{ℕ, _<_, _^_}
 use mathlib.Core.List.{List, [], _∷_}

@@ -1,4 +1,4 @@
--- A column of the walk: a local array of zeros is a row of elements in memory, and the row is room again when the walk ends. Assumes nothing.
+-- A column of the walk: a local array of zeros is a row of elements in memory, and the row is room again when the walk ends.
 use mathlib.Core.Path.{_≡_, refl}
 use Prim.Native.Nat.{ℕ, zero, suc}
 use mathlib.Core.List.{List, [], _∷_}

@@ -1,10 +1,10 @@
 -- The loop of the walk and what follows it. A turn reads one entry of the lent slice and stores its size and its bin in the columns; after the loop
--- the columns are lent to `check_columns`. The plan's token and its fractured borrow go through the loop in the invariant. Assumes nothing.
+-- the columns are lent to `check_columns`. The plan's token and its fractured borrow go through the loop in the invariant.
 -- The locals: _0 the result; _1 plan, _2 items, _3 capacity, _4 k; _5 rows, _6 laid; _7 sizes, _8 bins; _9 i, _10 entry; _11 the number of items,
 -- _12 the loop's test, _13 an offset in bytes; _14 where plan[i] lies, _15 plan[i]; _17 where sizes[i] lies, _19 where bins[i] does, from _16 and _18;
 -- _21 and _23 the columns as they are lent, from _20 and _22. In a context of n locals, local j stands at 2 · (n − 1 − j), and what is put in front
 -- shifts all.
-use mathlib.Core.Path.{_≡_, refl, sym}
+use mathlib.Core.Path.{_≡_, refl, sym, ap}
 use Prim.Native.Nat.{ℕ, _+_, _-_, _*_, _<_, _≤_, _^_}
 use native.Mathlib.Omega.{arith}
 use mathlib.Core.Bool.{not}
@@ -45,11 +45,13 @@ use denote.Enum.Laws as EL
 use denote.Triple.Statement.{Triple}
 use denote.Triple.Call.{calls-at}
 use denote.Triple.Entry.{Vals}
-use denote.Triple.Walked.{says, Stays, stay-none-slice, stay-none, walkOf, ends-at}
+use denote.Triple.Walked.{Stays, stay-none-slice, stay-none, walkOf, ends-at}
 use denote.Triple.Clauses.{ensured}
 use denote.Exit.{yes}
 use Rattle.packing.specs.declared.{Entry.Entry, PlanResult.PlanResult}
+use Rattle.packing.specs.Refusals.{planGives}
 use Rattle.packing.specs.Plans.{check}
+use Rattle.worst_case.proofs.PlanFits.{exact-as}
 use Rattle.packing.proofs.Entry as E
 use Rattle.packing.proofs.Entry.Laws as E′
 use Rattle.packing.proofs.PlanResult as D
@@ -61,7 +63,7 @@ use Rattle.plan.proofs.check_columns as cols
 use Rattle.plan.proofs.check_columns.Symbol.{name as #plan·check-columns}
 use Rattle.plan.proofs.check_plan as check-plan
 use Rattle.plan.proofs.check_plan.Code.Mir as mirs
-use Rattle.plan.proofs.Machine.{big-lit}
+use Rattle.plan.proofs.Machine.{big-lit, says-both}
 use Rattle.plan.proofs.check_plan.Proof.Columns.{column, cleared}
 use Rattle.plan.proofs.check_plan.Proof.Calls.{Cols, to-cols, said-cols, goes-cols}
 
@@ -127,7 +129,7 @@ module _ {M : Type 1} (𝓤 : URA M) (H : Heap 𝓤) (A : Atoms 𝓤) (W : Given
   exits : (r : PlanResult) (u : Val) → r ≡ check cap k ys (now ms) → ent 𝓤 (⋆ 𝓤 H A (‵ (flft κ q) ∷ ‵ (flft κ′ q₁) ∷ ‵ (ShrSlice (named 0) κ E.the-row .own (x .0) (at .0)) ∷ ‵ Items ∷ ‵ (D.the-row .own r (u ∷ [])) ∷ [])) (Post u)
   exits r u e =
       qed W (‵ (flft κ q) ∷ ‵ (flft κ′ q₁) ∷ ‵ (ShrSlice (named 0) κ E.the-row .own (x .0) (at .0)) ∷ ‵ Items ∷ ‵ (D.the-row .own r (u ∷ [])) ∷ []) ∵
-      suffices ! _ (ends-at 𝓤 H A check-plan.ended stayed (check-plan.clauses 𝓤 H A mem run) W (((κ, (κ′, tt)), (q, (q₁, tt)), tt, x, at), tt) u r (tt, (tt, (tt, (tt, tt)))) (tt, (tt, (tt, (tt, tt))))) $ says ! e $
+      suffices ! _ (ends-at 𝓤 H A check-plan.ended stayed (check-plan.clauses 𝓤 H A mem run) W (((κ, (κ′, tt)), (q, (q₁, tt)), tt, x, at), tt) u r (tt, (tt, (tt, (tt, tt)))) (tt, (tt, (tt, (tt, tt))))) $ says-both ! (ap planGives e) (exact-as cap k ys (now ms) r e) $
       -- the tokens
       nothing ! $ move ! (2 ∷ 0 ∷ []) $ join ! $ move ! (1 ∷ 0 ∷ []) $ join ! $ frame ! $
       -- [the plan; the items; the result]: what the parameters own, from the last
