@@ -1,4 +1,4 @@
--- A stream is refused at its 4,097th command at the latest, and no command is longer than the opening's 8 bytes: so an offset is small. Assumes nothing.
+-- A stream is refused at its 4,097th command at the latest, and no command is longer than the opening: so an offset is small.
 use mathlib.Core.Path.{_≡_, refl}
 use mathlib.Core.Bool.{Bool, true, false, not, _||_}
 use mathlib.Core.List.{List, [], _∷_}
@@ -13,7 +13,7 @@ use Rattle.packing.specs.declared.StreamReason.the-variants.{NoOpening, CutShor
 use Rattle.packing.specs.Prelude.{if_then_else_, any}
 use Rattle.packing.specs.Limits.{openingGood, mostCommands}
 use Rattle.packing.specs.Bins.{empty}
-use Rattle.packing.specs.Streams.{openingWidth, widths, lookup, openingOf, commandOf, Front, whole, faulty, front, Read, accepted, refused, follow, commands, read, lent, verdict}
+use Rattle.packing.specs.Streams.{openingWidth, openingLength, widths, lookup, openingOf, commandOf, Front, whole, faulty, front, Read, accepted, refused, follow, commands, read, lent, verdict}
 use Rattle.packing.specs.Run.{result}
 use Rattle.packing.proofs.Accepted.{accepted-whole}
 use Rattle.packing.proofs.Limits.{in-limits}
@@ -62,8 +62,8 @@ whole-fits b s c w = go (lookup b widths) refl
 
 -- What is read with so many commands left: a refusal's offset, and the length of what is accepted.
 abbrev Short : (left offset : ℕ) → List ℕ → Read → Type 0
-Short left offset s (accepted o cs) = length s ≤ 8 * left
-Short left offset s (refused reason at) = at ≤ offset + 8 * left
+Short left offset s (accepted o cs) = length s ≤ openingLength * left
+Short left offset s (refused reason at) = at ≤ offset + openingLength * left
 
 follow-short : (left offset w : ℕ) (b : ℕ) (s : List ℕ) (c : Command) (r : Read) → Fitting s w → Short left (offset + suc w) (drop w s) r
     → Short (suc left) offset (b ∷ s) (follow c r)
@@ -82,16 +82,16 @@ commands-short o (suc left) offset (b ∷ s) = go (front b s (lookup b widths)) 
     go (faulty reason) q h = rw (q, commands) (omega arith)
     go (whole c w) q h = rw (q, commands) (follow-short left offset w b s c (commands o left (offset + suc w) (drop w s)) (whole-fits b s c w q) (h (offset + suc w) (drop w s)))
 
--- With the opening, 8 bytes more.
+-- With the opening, its own length more.
 read-short : (stream : List ℕ) → Short (suc mostCommands) 0 stream (read stream)
 unfolding read
 read-short [] = omega arith
 read-short (b ∷ s) = go (eqb b 1) (ltb (length s) openingWidth) (openingGood (openingOf s)) refl
   where
     rest : Read
-    rest = commands (openingOf s) mostCommands 8 (drop openingWidth s)
+    rest = commands (openingOf s) mostCommands openingLength (drop openingWidth s)
 
-    later : (r : Read) → openingWidth ≤ length s → Short mostCommands 8 (drop openingWidth s) r → Short (suc mostCommands) 0 (b ∷ s) r
+    later : (r : Read) → openingWidth ≤ length s → Short mostCommands openingLength (drop openingWidth s) r → Short (suc mostCommands) 0 (b ∷ s) r
     later (accepted o cs) l h = omega (arith, length-drop openingWidth s)
     later (refused reason at) l h = omega arith
 
@@ -102,7 +102,7 @@ read-short (b ∷ s) = go (eqb b 1) (ltb (length s) openingWidth) (openingGood (
     go true true v p = omega arith
     go true false false p = omega arith
     go true false true p =
-        later rest (ltb-false (length s) openingWidth p) (commands-short (openingOf s) mostCommands 8 (drop openingWidth s))
+        later rest (ltb-false (length s) openingWidth p) (commands-short (openingOf s) mostCommands openingLength (drop openingWidth s))
 
 -- So every figure that a stream returns fits.
 pub stream-fits : (stream row : List ℕ) → StreamFits (result (verdict stream row))

@@ -1,4 +1,4 @@
--- The place of a plan's refusal is at most one more than the most rows. Assumes nothing.
+-- The place of a plan's refusal is at most one more than the most rows.
 use mathlib.Core.Path.{_≡_, refl}
 use mathlib.Core.Bool.{Bool, true, false, not, _||_}
 use mathlib.Core.Option.{Option, none, some}

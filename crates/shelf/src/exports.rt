@@ -5,8 +5,12 @@ ghost use mathlib.Core.Path.{_≡_};
 ghost use Rattle.packing.specs.Streams.{verdict};
 ghost use Rattle.packing.specs.Run.{result, rowAtExit};
 ghost use Rattle.packing.specs.Plans.{check};
+ghost use Rattle.packing.specs.Claims.{HoldsAnswered, NeverOverfull, LoadsAddUp, Counts};
+ghost use Rattle.worst_case.specs.OwnPlan.{OwnPlan};
+ghost use Rattle.worst_case.specs.WorstCase.{WorstCase};
 ghost use Rattle.plan_rows.specs.Rows.{planOf};
-ghost use Rattle.shelf.specs.Codes.{streamCode, StreamFits, planCode, PlanFits};
+ghost use Rattle.shelf.specs.Accepted.{WhenAccepted};
+ghost use Rattle.shelf.specs.Codes.{streamCode, StreamFits, planCode, PlanFits, ZeroExactly};
 
 fn stream_code(r: StreamResult) -> u64
     requires { ⌜ StreamFits r ⌝ }
@@ -48,12 +52,18 @@ pub extern "C" fn shelve_stream(stream: &[u8], answers: &mut [u16]) -> u64
     ensures code { λ r. ⌜ r ≡ streamCode (result (verdict (now (stream .entry)) (now (answers .entry)))) ⌝ }
     ensures fits { λ _. ⌜ StreamFits (result (verdict (now (stream .entry)) (now (answers .entry)))) ⌝ }
     ensures row { λ _. ⌜ now (answers .exit) ≡ rowAtExit (verdict (now (stream .entry)) (now (answers .entry))) (now (answers .entry)) ⌝ }
+    ensures counts { λ _. ⌜ WhenAccepted (now (stream .entry)) (now (answers .entry)) Counts ⌝ }
+    ensures holds_answered { λ _. ⌜ WhenAccepted (now (stream .entry)) (now (answers .entry)) HoldsAnswered ⌝ }
+    ensures never_overfull { λ _. ⌜ WhenAccepted (now (stream .entry)) (now (answers .entry)) NeverOverfull ⌝ }
+    ensures loads_add_up { λ _. ⌜ WhenAccepted (now (stream .entry)) (now (answers .entry)) LoadsAddUp ⌝ }
+    ensures own_plan_passes { λ _. ⌜ WhenAccepted (now (stream .entry)) (now (answers .entry)) OwnPlan ⌝ }
+    ensures worst_case { λ _. ⌜ WhenAccepted (now (stream .entry)) (now (answers .entry)) WorstCase ⌝ }
 {
-    let r = stream::shelve(stream, answers);
+    let r = crate::shelve(stream, answers);
     stream_code(r)
 }
 
-// Checks a plan in two rows (`shelf::check_rows`).
+// Checks a plan in two rows (`shelf::check_rows`): 0 is passed.
 #[no_mangle]
 pub extern "C" fn check_plan(
     sizes: &[u32],
@@ -64,7 +74,8 @@ pub extern "C" fn check_plan(
 ) -> u64
     ensures code { λ r. ⌜ r ≡ planCode (check capacity k (planOf (now (sizes .entry)) (now (bins .entry))) (now (items .entry))) ⌝ }
     ensures fits { λ _. ⌜ PlanFits (check capacity k (planOf (now (sizes .entry)) (now (bins .entry))) (now (items .entry))) ⌝ }
+    ensures exact { λ r. ⌜ ZeroExactly capacity k (planOf (now (sizes .entry)) (now (bins .entry))) (now (items .entry)) r ⌝ }
 {
-    let r = plan_rows::check_rows(sizes, bins, items, capacity, k);
+    let r = crate::check_rows(sizes, bins, items, capacity, k);
     plan_code(r)
 }

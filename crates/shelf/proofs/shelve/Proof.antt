@@ -1,7 +1,8 @@
 -- `shelve` meets its contract: the equations are those of the stream's call, and what holds of an accepted stream is a theorem about the model.
--- Assumes nothing.
+use mathlib.Core.Path.{ap}
 use borrow.Author.Needs.{needs}
-use Rattle.packing.proofs.Theorems.{never-overfull, loads-add-up, counts}
+use Rattle.packing.specs.Refusals.{streamGives}
+use Rattle.packing.proofs.Theorems.{holds-answered, never-overfull, loads-add-up, counts}
 use Rattle.worst_case.proofs.OwnPlan.{own-plan-of-stream}
 use Rattle.worst_case.proofs.WorstCase.{worst-case-of-stream}
 use Rattle.shelf.proofs.shelve.Statement.{statement}
@@ -17,16 +18,19 @@ returns : tie.Need-returns
 returns c =
     let d = c .before .before in
     let s = d .before .before .before .before in (
-      d .shelve .ensures .0,
+      ap streamGives (d .shelve .ensures .0),
       (
         d .shelve .ensures .1,
         (
           λ o cs e. counts o cs,
           (
-            λ o cs e. never-overfull o cs,
+            λ o cs e. holds-answered o cs,
             (
-              λ o cs e. loads-add-up o cs,
-              (own-plan-of-stream (s .args .stream .now) (s .args .answers .now), worst-case-of-stream (s .args .stream .now) (s .args .answers .now)),
+              λ o cs e. never-overfull o cs,
+              (
+                λ o cs e. loads-add-up o cs,
+                (own-plan-of-stream (s .args .stream .now) (s .args .answers .now), worst-case-of-stream (s .args .stream .now) (s .args .answers .now)),
+              ),
             ),
           ),
         ),

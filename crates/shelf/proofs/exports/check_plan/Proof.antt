@@ -1,19 +1,45 @@
--- `check_plan` meets its contract: a place always fits (Places). Assumes nothing.
-use mathlib.Core.Path.{sym, ap, subst, _∙_}
+-- `check_plan` meets its contract: a place always fits (Places), so 0 is the number of no refusal.
+use mathlib.Core.Path.{_≡_, sym, ap, subst, _∙_}
+use Rattle.packing.specs.declared.{PlanResult.PlanResult}
+use Rattle.packing.specs.Plans.{check}
+use Rattle.packing.proofs.Given.{plan-gives-back}
+use Rattle.plan_rows.specs.Rows.{planOf}
 use borrow.Author.Needs.{needs}
 use Rattle.shelf.specs.Codes.{planCode, PlanFits}
 use Rattle.shelf.proofs.Places.{plan-fits}
+use Rattle.shelf.proofs.Back.{plan-code-back}
 use Rattle.shelf.proofs.exports.check_plan.Statement.{statement}
 use Rattle.shelf.proofs.exports.check_plan.Tie as tie
+
+-- What is due, and that it is what `check_rows` returned.
+abbrev due : tie.After-check-rows → PlanResult
+due c =
+    let a = c .before .before .before .before .args in
+    check (a .capacity) (a .k) (planOf (a .sizes .now) (a .bins .now)) (a .items .now)
+
+returned : (c : tie.After-check-rows) → c .check-rows .result ≡ due c
+returned c = plan-gives-back (c .check-rows .result) (due c) (c .check-rows .ensures .0)
+
+fits : (c : tie.After-check-rows) → PlanFits (c .check-rows .result)
+fits c = subst PlanFits (sym (returned c)) (plan-fits _ _ _ _)
 
 check-rows-requires : tie.Need-check-rows-requires
 check-rows-requires c κs = search needs
 
 plan-code-requires : tie.Need-plan-code-requires
-plan-code-requires c κs = subst PlanFits (sym (c .check-rows .ensures)) (plan-fits _ _ _ _)
+plan-code-requires c κs = fits c
 
 returns : tie.Need-returns
-returns c = (c .plan-code .ensures ∙ ap planCode (c .before .check-rows .ensures), plan-fits _ _ _ _)
+returns c =
+    let d = c .before in
+    let passed : c .plan-code .result ≡ 0 → d .check-rows .result ≡ PlanResult.Passed =
+    λ e. plan-code-back (d .check-rows .result) PlanResult.Passed (fits d) tt (sym (c .plan-code .ensures) ∙ e) in (
+      c .plan-code .ensures ∙ ap planCode (returned d),
+      (
+        plan-fits _ _ _ _,
+        (λ e. d .check-rows .ensures .1 .0 (passed e), λ f. c .plan-code .ensures ∙ ap planCode (d .check-rows .ensures .1 .1 f)),
+      ),
+    )
 
 pub check-plan-spec : {M : Type 1} → statement M
 check-plan-spec = tie.close (tie.spec check-rows-requires plan-code-requires returns)

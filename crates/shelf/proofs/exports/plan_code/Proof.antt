@@ -1,4 +1,4 @@
--- `plan_code` meets its contract: the place fits below the number. Assumes nothing.
+-- `plan_code` meets its contract: the place fits below the number.
 use mathlib.Core.Path.{sym, ap, subst, _∙_}
 use Prim.Native.Nat.{ℕ, _+_, _*_, _<_}
 use native.Mathlib.Omega.{arith}

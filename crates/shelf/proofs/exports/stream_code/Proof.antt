@@ -1,4 +1,4 @@
--- `stream_code` meets its contract: each figure fits its place in the number. Assumes nothing.
+-- `stream_code` meets its contract: each figure fits its place in the number.
 use mathlib.Core.Path.{sym, ap, subst, _∙_}
 use Prim.Native.Nat.{ℕ, _+_, _*_, _<_}
 use native.Mathlib.Omega.{arith}
