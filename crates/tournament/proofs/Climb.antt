@@ -1,4 +1,4 @@
--- The store: at most one node is wrong, the parent of the node that was set last. Assumes nothing.
+-- The store: at most one node is wrong, the parent of the node that was set last.
 use mathlib.Core.Path.{_≡_, refl, sym, subst, _∙_}
 use mathlib.Core.List.{List}
 use Prim.Native.Nat.{ℕ, _+_, _-_, _*_, _/_, _%_, _≤_, _<_, max}

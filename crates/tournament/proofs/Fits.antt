@@ -1,4 +1,4 @@
--- First fit on a plain list, by places: what is found is the first place with enough, and nothing is found where no place has. Assumes nothing.
+-- First fit on a plain list, by places: what is found is the first place with enough, and nothing is found where no place has.
 use mathlib.Core.Path.{_≡_, refl, ap}
 use mathlib.Core.List.{List, [], _∷_}
 use Prim.Native.Nat.{ℕ, zero, suc, _≤_, _<_}

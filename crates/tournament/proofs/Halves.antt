@@ -1,4 +1,4 @@
--- The descent: the leaves below a node are those of its left child and then those of its right child, and no leaf is above its node. Assumes nothing.
+-- The descent: the leaves below a node are those of its left child and then those of its right child, and no leaf is above its node.
 use mathlib.Core.Path.{_≡_, refl, sym, ap, subst}
 use mathlib.Core.Bool.{Bool, true, false, cond}
 use mathlib.Core.List.{List}

@@ -1,4 +1,4 @@
--- The leaves of a tree as a plain list, and as nodes. Assumes nothing.
+-- The leaves of a tree as a plain list, and as nodes.
 use mathlib.Core.Path.{_≡_, sym, ap, _∙_}
 use mathlib.Core.List.{List}
 use Prim.Native.Nat.{ℕ, _+_, _*_, _≤_, _<_}

@@ -1,4 +1,4 @@
--- Powers of two, doubled as long as they stay below the stock. Assumes nothing.
+-- Powers of two, doubled as long as they stay below the stock.
 use mathlib.Core.Path.{_≡_, refl}
 use Prim.Native.Nat.{ℕ, suc, _+_, _*_, _^_, _≤_, _<_}
 use native.Mathlib.Nat.{two-pow-succ}

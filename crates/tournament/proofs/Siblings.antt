@@ -1,4 +1,4 @@
--- A number with its lowest digit turned is its sibling. Assumes nothing.
+-- A number with its lowest digit turned is its sibling.
 use mathlib.Core.Path.{_≡_, ap, _∙_}
 use Prim.Native.Nat.{ℕ, zero, suc, _+_, _*_, _/_, _%_, _<_}
 use native.Mathlib.Omega.{arith}

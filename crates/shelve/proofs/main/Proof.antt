@@ -1,4 +1,4 @@
--- `main` is safe: what is read and what is printed stand inside their rows. Assumes nothing.
+-- `main` is safe: what is read and what is printed stand inside their rows.
 use borrow.Author.Needs.{needs}
 use Rattle.report.proofs.Texts.{print-inside, print-length}
 use Rattle.shelve.proofs.main.Statement.{statement}

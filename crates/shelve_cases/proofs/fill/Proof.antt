@@ -1,4 +1,4 @@
--- `fill` is safe. The measure is how many bytes are left. Assumes nothing.
+-- `fill` is safe. The measure is how many bytes are left.
 use Prim.Native.Nat.{_≤_, _-_}
 use native.Mathlib.Nat.{mod-lt}
 use native.Mathlib.Omega.{arith}

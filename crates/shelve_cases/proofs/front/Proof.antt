@@ -1,4 +1,4 @@
--- `front` is safe: by its test the part stands inside the row. Assumes nothing.
+-- `front` is safe: by its test the part stands inside the row.
 use mathlib.Core.Path.{sym}
 use borrow.Author.Needs.{needs}
 use lib.Seq.{length-take-le}

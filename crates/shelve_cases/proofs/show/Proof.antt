@@ -1,4 +1,4 @@
--- `show` is safe: what is printed stands inside its row. Assumes nothing.
+-- `show` is safe: what is printed stands inside its row.
 use borrow.Author.Needs.{needs}
 use Rattle.report.proofs.Texts.{print-inside, print-length}
 use Rattle.shelve_cases.proofs.show.Statement.{statement}

@@ -1,4 +1,4 @@
--- `show_end` is safe: what is printed stands inside its row, and so does its end. Assumes nothing.
+-- `show_end` is safe: what is printed stands inside its row, and so does its end.
 use borrow.Author.Needs.{needs}
 use Rattle.report.proofs.Texts.{print-inside}
 use Rattle.shelve_cases.proofs.show_end.Statement.{statement}

@@ -1,4 +1,4 @@
--- `descend` meets its contract. The measure is the height. Assumes nothing.
+-- `descend` meets its contract. The measure is the height.
 use mathlib.Core.Path.{_≡_, sym, ap, _∙_}
 use mathlib.Core.Bool.{Bool, cond}
 use Prim.Native.Nat.{ℕ, _+_, _*_, _<_}

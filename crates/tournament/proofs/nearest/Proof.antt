@@ -1,4 +1,4 @@
--- `nearest` meets its contract. Assumes nothing.
+-- `nearest` meets its contract.
 use borrow.Author.Tests.{le-leb, lt-leb}
 use Rattle.tournament.proofs.nearest.Statement.{statement}
 use Rattle.tournament.proofs.nearest.Tie as tie

@@ -1,4 +1,4 @@
--- `raise` meets its contract. The invariant: every node is right but the parent of n, and the value has not sunk. The measure is n. Assumes nothing.
+-- `raise` meets its contract. The invariant: every node is right but the parent of n, and the value has not sunk. The measure is n.
 use native.Mathlib.Omega.{arith}
 use Rattle.tournament.proofs.Climb.{Rise, climb-end, rise-start, rise-up, rise-stop}
 use Rattle.tournament.proofs.raise.Statement.{statement}

@@ -1,4 +1,4 @@
--- `renew` meets its contract. The invariant: every node is right but the parent of n. The measure is n. Assumes nothing.
+-- `renew` meets its contract. The invariant: every node is right but the parent of n. The measure is n.
 use native.Mathlib.Omega.{arith}
 use Rattle.tournament.proofs.Climb.{Climb, climb-start, sibling-inside, climb-up, climb-stop, climb-end}
 use Rattle.tournament.proofs.renew.Statement.{statement}

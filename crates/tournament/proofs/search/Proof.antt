@@ -1,4 +1,4 @@
--- `search` meets its contract: the descent from the root. Assumes nothing.
+-- `search` meets its contract: the descent from the root.
 use mathlib.Core.Path.{refl}
 use native.Mathlib.Omega.{arith}
 use borrow.Author.Needs.{needs}

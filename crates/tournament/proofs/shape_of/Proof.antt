@@ -1,4 +1,4 @@
--- `shape_of` meets its contract. The invariant: no lower power of two reaches the stock. The measure is what the height lacks of 9. Assumes nothing.
+-- `shape_of` meets its contract. The invariant: no lower power of two reaches the stock. The measure is what the height lacks of 9.
 use Prim.Native.Nat.{_-_}
 use native.Mathlib.Omega.{arith}
 use Rattle.tournament.proofs.Powers.{Growing, growing-start, growing-next}

@@ -1,4 +1,4 @@
--- `sibling_of` meets its contract. Assumes nothing.
+-- `sibling_of` meets its contract.
 use Rattle.tournament.proofs.Siblings.{turned}
 use Rattle.tournament.proofs.sibling_of.Statement.{statement}
 use Rattle.tournament.proofs.sibling_of.Tie as tie

@@ -1,4 +1,4 @@
--- `value` meets its contract: a leaf of the list is a node of the row. Assumes nothing.
+-- `value` meets its contract: a leaf of the list is a node of the row.
 use mathlib.Core.Path.{sym}
 use borrow.Author.Needs.{needs}
 use Rattle.tournament.proofs.Leaves.{leaf-node}
