@@ -30,12 +30,16 @@ mod refusals;
 mod stream;
 
 pub use refusals::{ItemRefusal, PlanFault, PlanRefusal, StreamFault, StreamRefusal};
-pub use stream::{answers, Answer, Answers, Command, StreamBuilder};
+pub use stream::{answers, commands, Answer, Answers, Command, Commands, Opening, StreamBuilder};
 
 /// The largest capacity of a bin.
 pub const MAX_CAPACITY: u32 = 16_777_216;
 /// The most bins that a stock can have.
 pub const MAX_STOCK: u16 = 512;
+/// The smallest `m`.
+pub const MIN_M: u8 = 6;
+/// The largest `m`.
+pub const MAX_M: u8 = 9;
 /// The most commands that may follow the opening.
 pub const MAX_COMMANDS: usize = 4_096;
 /// The most entries of a plan, the most items it is checked against, and the

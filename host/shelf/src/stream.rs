@@ -11,6 +11,40 @@ const OPENING_LEN: usize = 8;
 /// An answer word with this bit carries a refusal's number.
 const REFUSED: u16 = 0x8000;
 
+/// What a stream opens with.
+#[derive(Debug, Clone, Copy, PartialEq, Eq)]
+pub struct Opening {
+    /// The capacity of a bin.
+    pub capacity: u32,
+    /// The stock of bins.
+    pub stock: u16,
+    /// Every `m`-th B2 item goes beside an A item.
+    pub m: u8,
+}
+
+impl Opening {
+    /// The opening that a stream starts with, within its limits or not.
+    ///
+    /// ```
+    /// use shelf::{Opening, StreamBuilder};
+    ///
+    /// let stream = StreamBuilder::open(60, 4, 6);
+    /// let opening = Opening { capacity: 60, stock: 4, m: 6 };
+    /// assert_eq!(Opening::read(stream.bytes()), Some(opening));
+    /// assert_eq!(Opening::read(&stream.bytes()[..7]), None);
+    /// ```
+    pub fn read(stream: &[u8]) -> Option<Self> {
+        let [OPEN, a, b, c, d, e, f, m, ..] = *stream else {
+            return None;
+        };
+        Some(Self {
+            capacity: u32::from_be_bytes([a, b, c, d]),
+            stock: u16::from_be_bytes([e, f]),
+            m,
+        })
+    }
+}
+
 /// Writes a stream: an opening, then commands.
 ///
 /// Limits are the library's business; whatever fits the operands' width can be
@@ -132,6 +166,50 @@ pub enum Command {
     Count,
 }
 
+/// The commands after the opening, each with the offset of its byte. They end
+/// at the first one that is unknown or cut short.
+///
+/// ```
+/// use shelf::{Command, StreamBuilder};
+///
+/// let mut stream = StreamBuilder::open(60, 4, 6);
+/// stream.shelve(35).count();
+/// let commands: Vec<_> = shelf::commands(stream.bytes()).collect();
+/// assert_eq!(commands, [(8, Command::Shelve { size: 35 }), (13, Command::Count)]);
+/// ```
+pub fn commands(stream: &[u8]) -> Commands<'_> {
+    Commands {
+        offset: OPENING_LEN,
+        rest: stream.get(OPENING_LEN..).unwrap_or(&[]),
+    }
+}
+
+/// The iterator that [`commands`] returns.
+#[derive(Debug, Clone)]
+pub struct Commands<'a> {
+    offset: usize,
+    rest: &'a [u8],
+}
+
+impl Iterator for Commands<'_> {
+    type Item = (usize, Command);
+
+    fn next(&mut self) -> Option<(usize, Command)> {
+        let (command, rest) = match *self.rest {
+            [SHELVE, a, b, c, d, ref rest @ ..] => {
+                let size = u32::from_be_bytes([a, b, c, d]);
+                (Command::Shelve { size }, rest)
+            }
+            [COUNT, ref rest @ ..] => (Command::Count, rest),
+            _ => return None,
+        };
+        let offset = self.offset;
+        self.offset += self.rest.len() - rest.len();
+        self.rest = rest;
+        Some((offset, command))
+    }
+}
+
 /// Pairs the commands of an accepted stream with their answers, in order.
 ///
 /// A word does not tell a bin's number from a count; the command does. On a
@@ -154,7 +232,7 @@ pub enum Command {
 /// ```
 pub fn answers<'a>(stream: &'a [u8], words: &'a [u16]) -> Answers<'a> {
     Answers {
-        rest: stream.get(OPENING_LEN..).unwrap_or(&[]),
+        commands: commands(stream),
         words: words.iter(),
     }
 }
@@ -162,7 +240,7 @@ pub fn answers<'a>(stream: &'a [u8], words: &'a [u16]) -> Answers<'a> {
 /// The iterator that [`answers`] returns.
 #[derive(Debug, Clone)]
 pub struct Answers<'a> {
-    rest: &'a [u8],
+    commands: Commands<'a>,
     words: std::slice::Iter<'a, u16>,
 }
 
@@ -170,15 +248,7 @@ impl Iterator for Answers<'_> {
     type Item = (Command, Answer);
 
     fn next(&mut self) -> Option<(Command, Answer)> {
-        let (command, rest) = match *self.rest {
-            [SHELVE, a, b, c, d, ref rest @ ..] => {
-                let size = u32::from_be_bytes([a, b, c, d]);
-                (Command::Shelve { size }, rest)
-            }
-            [COUNT, ref rest @ ..] => (Command::Count, rest),
-            _ => return None,
-        };
-        self.rest = rest;
+        let (_offset, command) = self.commands.next()?;
         let word = *self.words.next()?;
         let answer = match command {
             Command::Shelve { .. } => Answer::to_shelve(word)?,
