@@ -2,6 +2,8 @@
 
 use std::fmt::{self, Write};
 
+use shelf::Opening;
+
 use crate::packing::{Bin, Packing, SizeClass};
 
 const COLUMNS: usize = 80;
@@ -15,14 +17,13 @@ impl fmt::Display for Drawing<'_> {
     fn fmt(&self, f: &mut fmt::Formatter<'_>) -> fmt::Result {
         let packing = self.0;
         let (used, units) = packing.units();
-        let Packing {
-            capacity, stock, m, ..
-        } = packing;
+        let Opening { capacity, stock, m } = packing.opening;
         writeln!(f, "capacity {capacity}, stock {stock}, m {m}")?;
         let (items, bins) = (packing.items(), packing.bins.len());
         writeln!(
             f,
-            "{items} masters in {bins} cartridges, {used} of {units} units"
+            "{items} masters in {bins} cartridges, {used} of {units} units; {} refused",
+            packing.refused
         )?;
         if packing.bins.is_empty() {
             return Ok(());
@@ -31,8 +32,8 @@ impl fmt::Display for Drawing<'_> {
         writeln!(f, "\n   no class     load     free   {}", legend.join("  "))?;
         for (number, bin) in (1..).zip(&packing.bins) {
             let load = bin.load();
-            let free = packing.capacity - load;
-            let bar = bar(bin, packing.capacity);
+            let free = capacity - load;
+            let bar = bar(bin, capacity);
             writeln!(f, "{number:>5}{:>6}{load:>9}{free:>9} │{bar}│", bin.class)?;
             write_items(f, bin)?;
         }

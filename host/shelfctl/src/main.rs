@@ -1,199 +1,125 @@
-//! Shelves a stream, prints the answers, and draws the shelf.
+//! Shelves a stream, prints the answers, and draws the shelf; checks a plan.
 
+mod arguments;
 mod draw;
+mod failure;
+mod format;
+mod input;
+mod json;
+mod list;
+mod outcome;
+mod output;
 mod packing;
+mod plan;
+mod source;
 mod svg;
 mod text;
+mod words;
 
-use std::fs;
-use std::io::{self, Read, Write};
-use std::path::Path;
 use std::process::ExitCode;
 
-use packing::Packing;
-use shelf::{Answer, MAX_COMMANDS};
-use text::BadText;
+use arguments::{Action, Place, Shelve};
+use failure::Failure;
+use format::Format;
+use input::Input;
+use outcome::{Outcome, Shelved};
+use output::{print, tell};
+use source::Source;
 
-const USAGE: &str = "\
-usage: shelfctl [--text | --raw | --hex] [--draw] [--svg PICTURE] [FILE]
-
-Shelves the stream in FILE, or from standard input without one (or with -), and
-prints an answer for each command:
-
-  P COMMAND CARTRIDGE   the master lies in this cartridge
-  C COMMAND COUNT       so many cartridges are opened
-  R COMMAND REFUSAL     the master was refused
-  T MASTERS CARTRIDGES  at the end: masters accepted, cartridges opened
-  X REFUSAL OFFSET      the whole stream was refused, and nothing shelved
-  L 32768               the stream is longer than this many bytes
-
-  --text    the input is a text; so are FILE.txt and standard input
-  --hex     the input is a stream in hex; so is FILE.hex
-  --raw     the input is a stream; so is any other FILE
-  --draw    draw the shelf after the answers
-  --svg     draw it into this SVG file
-
-A text has a command on each line: `open CAPACITY STOCK M` first, then
-`shelve SIZE` and `count`. `#` starts a comment.
-
-Exit status: 0 shelved, 1 stream refused, 2 bad usage or bad text.";
-
-/// The program `shelve` takes no longer stream.
-const MAX_STREAM: usize = 32_768;
-
-#[derive(Clone, Copy)]
-enum Format {
-    Text,
-    Hex,
-    Raw,
-}
-
-#[derive(Default)]
-struct Arguments {
-    format: Option<Format>,
-    draw: bool,
-    svg: Option<String>,
-    file: Option<String>,
-    help: bool,
-}
-
-fn arguments() -> Result<Arguments, String> {
-    let mut arguments = Arguments::default();
-    let mut given = std::env::args_os().skip(1).map(|arg| {
-        arg.into_string()
-            .map_err(|arg| format!("cannot read the argument {arg:?}"))
-    });
-    while let Some(arg) = given.next().transpose()? {
-        let format = match arg.as_str() {
-            "--text" => Format::Text,
-            "--hex" => Format::Hex,
-            "--raw" => Format::Raw,
-            "--draw" => {
-                arguments.draw = true;
-                continue;
-            }
-            "--svg" => {
-                let picture = given.next().transpose()?;
-                arguments.svg = Some(picture.ok_or("--svg needs the name of a file")?);
-                continue;
-            }
-            "--help" | "-h" => {
-                arguments.help = true;
-                continue;
-            }
-            option if option.starts_with('-') && option != "-" => {
-                return Err(format!("there is no option {option}"));
-            }
-            _ => {
-                if arguments.file.replace(arg).is_some() {
-                    return Err("only one file can be shelved at a time".to_string());
-                }
-                continue;
-            }
-        };
-        if arguments.format.replace(format).is_some() {
-            return Err("the format is given twice".to_string());
-        }
-    }
-    Ok(arguments)
-}
-
-/// The format of an input by its name; `None` is standard input.
-fn format_of(file: Option<&str>) -> Format {
-    let Some(file) = file else {
-        return Format::Text;
-    };
-    match Path::new(file)
-        .extension()
-        .and_then(|extension| extension.to_str())
-    {
-        Some("txt") => Format::Text,
-        Some("hex") => Format::Hex,
-        _ => Format::Raw,
-    }
-}
-
-fn read_input(file: Option<&str>) -> io::Result<Vec<u8>> {
-    match file {
-        Some(file) => fs::read(file),
-        None => {
-            let mut input = Vec::new();
-            io::stdin().read_to_end(&mut input)?;
-            Ok(input)
-        }
-    }
-}
+const ACCEPTED: u8 = 0;
+const REFUSED: u8 = 1;
 
 fn main() -> ExitCode {
-    match run() {
-        Ok(code) => code,
-        Err(message) => {
-            eprintln!("shelfctl: {message}");
-            ExitCode::from(2)
+    let status = run().unwrap_or_else(|failure| {
+        tell(&failure.message());
+        failure.status()
+    });
+    ExitCode::from(status)
+}
+
+fn run() -> Result<u8, Failure> {
+    match arguments::parse(std::env::args_os().skip(1)).map_err(Failure::Usage)? {
+        Action::Help => print(include_str!("usage.txt")).map(|()| ACCEPTED),
+        Action::Version => {
+            print(&format!("shelfctl {}\n", env!("CARGO_PKG_VERSION"))).map(|()| ACCEPTED)
         }
+        Action::Shelve(shelve) => shelve_input(&shelve),
+        Action::Check(plan) => check_plan(&plan),
     }
 }
 
-fn run() -> Result<ExitCode, String> {
-    let arguments = arguments().map_err(|message| format!("{message}; try --help"))?;
-    if arguments.help {
-        return print(&format!("{USAGE}\n")).map(|()| ExitCode::SUCCESS);
+fn shelve_input(shelve: &Shelve) -> Result<u8, Failure> {
+    let input = Input::open(&shelve.input)?;
+    output::may_print(&input.file)?;
+    if let Some(Place::File(picture)) = &shelve.svg {
+        output::may_draw(picture, &input.file, shelve.force)?;
     }
-    let file = arguments.file.as_deref().filter(|&file| file != "-");
-    let name = file.unwrap_or("standard input");
-    let input = read_input(file).map_err(|error| format!("{name}: {error}"))?;
-    let stream = match arguments.format.unwrap_or_else(|| format_of(file)) {
-        Format::Text => text::read_text(&input),
-        Format::Hex => text::read_hex(&input),
-        Format::Raw => Ok(input),
+    let named = match &shelve.input {
+        Place::Standard => None,
+        Place::File(file) => Format::of_name(file),
     };
-    let stream =
-        stream.map_err(|BadText { line, message }| format!("{name}, line {line}: {message}"))?;
-
-    if stream.len() > MAX_STREAM {
-        print(&format!("L {MAX_STREAM}\n"))?;
-        return Ok(ExitCode::from(1));
-    }
-    let mut words = [0; MAX_COMMANDS];
-    let totals = match shelf::shelve(&stream, &mut words) {
-        Ok(totals) => totals,
-        Err(refusal) => {
-            print(&format!(
-                "X {} {}\n",
-                refusal.fault.number(),
-                refusal.offset
-            ))?;
-            return Ok(ExitCode::from(1));
-        }
-    };
-
-    let mut output = String::new();
-    for (number, (_, answer)) in (1..).zip(shelf::answers(&stream, &words)) {
-        output += &match answer {
-            Answer::Placed { bin } => format!("P {number} {bin}\n"),
-            Answer::Counted { opened } => format!("C {number} {opened}\n"),
-            Answer::Refused(refusal) => format!("R {number} {}\n", refusal.number()),
-        };
-    }
-    output += &format!("T {} {}\n", totals.items, totals.opened);
-    let packing = Packing::of(&stream, &words);
-    if arguments.draw {
-        output += &format!("\n{}", draw::Drawing(&packing));
-    }
-    print(&output)?;
-    if let Some(picture) = arguments.svg {
-        let drawn = svg::Picture(&packing).to_string();
-        fs::write(&picture, drawn).map_err(|error| format!("{picture}: {error}"))?;
-    }
-    Ok(ExitCode::SUCCESS)
+    let source = input.stream(shelve.format.or(named))?;
+    let outcome = Outcome::of(&source);
+    let sentences = outcome.sentences(&source);
+    // The words come last, where people see them, but come whatever is written.
+    let written = write(shelve, &source, &outcome, &sentences);
+    sentences.iter().for_each(|sentence| tell(sentence));
+    written?;
+    Ok(match outcome {
+        Outcome::Shelved(_) => ACCEPTED,
+        Outcome::TooLong | Outcome::Refused(_) => REFUSED,
+    })
 }
 
-/// Prints, and does not mind a reader that has seen enough.
-fn print(output: &str) -> Result<(), String> {
-    match io::stdout().write_all(output.as_bytes()) {
-        Err(error) if error.kind() != io::ErrorKind::BrokenPipe => {
-            Err(format!("cannot print: {error}"))
+fn write(
+    shelve: &Shelve,
+    source: &Source,
+    outcome: &Outcome,
+    sentences: &[String],
+) -> Result<(), Failure> {
+    if shelve.json {
+        print(&json::object(source, outcome, sentences))?;
+    } else if let (Outcome::Shelved(shelved), Some(Place::Standard)) = (outcome, &shelve.svg) {
+        print(&picture(shelved))?;
+    } else {
+        let mut output = outcome.lines(source);
+        if let Outcome::Shelved(Shelved { packing, .. }) = outcome {
+            if shelve.draw {
+                output += &format!("\n{}", draw::Drawing(packing));
+            }
+            if shelve.list {
+                output += &format!("\n{}", list::List(packing));
+            }
+        }
+        print(&output)?;
+    }
+    match (outcome, &shelve.svg) {
+        (Outcome::Shelved(shelved), Some(Place::File(file))) => {
+            output::write_picture(file, &picture(shelved))
         }
         _ => Ok(()),
+    }
+}
+
+fn picture(shelved: &Shelved) -> String {
+    svg::Picture(&shelved.packing).to_string()
+}
+
+fn check_plan(place: &Place) -> Result<u8, Failure> {
+    let mut input = Input::open(place)?;
+    output::may_print(&input.file)?;
+    let mut text = Vec::new();
+    input.text(&mut text)?;
+    let plan = plan::read_plan(&text).map_err(input::bad_text)?;
+    match plan.check() {
+        Ok(()) => print("passed\n").map(|()| ACCEPTED),
+        Err(refusal) => {
+            let number = refusal.fault.number();
+            let printed = print(&format!("refused {number} {}\n", refusal.place));
+            plan.sentences(refusal)
+                .iter()
+                .for_each(|sentence| tell(sentence));
+            printed.map(|()| REFUSED)
+        }
     }
 }

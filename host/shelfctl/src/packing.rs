@@ -1,6 +1,6 @@
 //! The shelf after a stream, rebuilt from the sizes and the answers.
 
-use shelf::{Answer, Command};
+use shelf::{Answer, Command, Opening};
 
 #[derive(Debug, Clone, Copy, PartialEq, Eq)]
 pub enum SizeClass {
@@ -52,35 +52,44 @@ impl Bin {
     pub fn load(&self) -> u32 {
         self.items.iter().map(|item| item.size).sum()
     }
+
+    /// The numbers of the commands that its items came with.
+    pub fn commands(&self) -> impl Iterator<Item = usize> + '_ {
+        self.items.iter().map(|item| item.command)
+    }
 }
 
 pub struct Packing {
-    pub capacity: u32,
-    pub stock: u16,
-    pub m: u8,
+    pub opening: Opening,
     pub bins: Vec<Bin>,
+    /// The masters refused.
+    pub refused: usize,
 }
 
 impl Packing {
     /// The packing that an accepted stream left.
     pub fn of(stream: &[u8], words: &[u16]) -> Self {
-        let capacity = u32::from_be_bytes([stream[1], stream[2], stream[3], stream[4]]);
-        let stock = u16::from_be_bytes([stream[5], stream[6]]);
-        let m = stream[7];
+        let opening = Opening::read(stream).expect("an accepted stream has an opening");
         let mut bins: Vec<Bin> = Vec::new();
+        let mut refused = 0;
         let mut b2_accepted = 0;
         for (number, answered) in (1..).zip(shelf::answers(stream, words)) {
-            let (Command::Shelve { size }, Answer::Placed { bin }) = answered else {
-                continue;
+            let (size, bin) = match answered {
+                (Command::Shelve { size }, Answer::Placed { bin }) => (size, bin),
+                (_, Answer::Refused(_)) => {
+                    refused += 1;
+                    continue;
+                }
+                _ => continue,
             };
-            let class = SizeClass::of(size, capacity);
+            let class = SizeClass::of(size, opening.capacity);
             b2_accepted += usize::from(class == SizeClass::B2);
             // A bin has the class that its first item called for.
             if usize::from(bin) > bins.len() {
                 let class = match class {
                     SizeClass::A => 1,
                     SizeClass::B1 => 2,
-                    SizeClass::B2 if b2_accepted % usize::from(m) == 0 => 1,
+                    SizeClass::B2 if b2_accepted % usize::from(opening.m) == 0 => 1,
                     SizeClass::B2 => 3,
                     SizeClass::X => 4,
                 };
@@ -94,10 +103,9 @@ impl Packing {
             });
         }
         Self {
-            capacity,
-            stock,
-            m,
+            opening,
             bins,
+            refused,
         }
     }
 
@@ -108,6 +116,9 @@ impl Packing {
     /// The units in use over all opened bins, and those they have.
     pub fn units(&self) -> (u64, u64) {
         let used = self.bins.iter().map(|bin| u64::from(bin.load())).sum();
-        (used, u64::from(self.capacity) * self.bins.len() as u64)
+        (
+            used,
+            u64::from(self.opening.capacity) * self.bins.len() as u64,
+        )
     }
 }

@@ -104,6 +104,7 @@ impl fmt::Display for Picture<'_> {
 }
 
 fn header(f: &mut fmt::Formatter<'_>, packing: &Packing) -> fmt::Result {
+    let opening = packing.opening;
     let (used, units) = packing.units();
     let share = (used * 100).checked_div(units).unwrap_or(0);
     writeln!(
@@ -115,8 +116,8 @@ fn header(f: &mut fmt::Formatter<'_>, packing: &Packing) -> fmt::Result {
     writeln!(
         f,
         "<text class=\"note\" x=\"{MARGIN}\" y=\"68\">capacity {}, stock {}, m {}; \
-         {used} of {units} units in use, {share} %</text>",
-        packing.capacity, packing.stock, packing.m,
+         {used} of {units} units in use, {share} %; {} refused</text>",
+        opening.capacity, opening.stock, opening.m, packing.refused,
     )?;
     let mut x = MARGIN;
     for class in SizeClass::ALL {
@@ -166,7 +167,7 @@ fn row(
     let bar = layout.bar;
     let middle = top + BAR_HEIGHT / 2 + 4;
     let load = bin.load();
-    let free = packing.capacity - load;
+    let free = packing.opening.capacity - load;
     writeln!(
         f,
         "<text class=\"number\" x=\"{}\" y=\"{middle}\">{}</text>\
@@ -181,7 +182,7 @@ fn row(
         "<rect class=\"empty\" x=\"{left}\" y=\"{top}\" width=\"{bar}\" \
          height=\"{BAR_HEIGHT}\" rx=\"4\"/>"
     )?;
-    let scale = f64::from(bar) / f64::from(packing.capacity);
+    let scale = f64::from(bar) / f64::from(packing.opening.capacity);
     let mut start = 0;
     for item in &bin.items {
         let x = f64::from(left) + f64::from(start) * scale;

@@ -1,6 +1,9 @@
 //! Streams as people write them: a text of commands, or hex.
 
-use shelf::StreamBuilder;
+use shelf::{StreamBuilder, MAX_CAPACITY, MAX_M, MAX_STOCK, MIN_M};
+
+use crate::format::is_text;
+use crate::source::Source;
 
 /// What is wrong with a text, and where.
 #[derive(Debug, PartialEq, Eq)]
@@ -10,64 +13,119 @@ pub struct BadText {
     pub message: String,
 }
 
-fn bad<T>(line: usize, message: impl Into<String>) -> Result<T, BadText> {
+pub fn bad<T>(line: usize, message: impl Into<String>) -> Result<T, BadText> {
     let message = message.into();
     Err(BadText { line, message })
 }
 
-/// The text without its comments, line by line, numbered from 1.
-fn lines(text: &[u8]) -> impl Iterator<Item = (usize, Result<&str, BadText>)> {
+/// The lines of a text, numbered from 1, without their comments and without the
+/// mark of UTF-8 that some editors put first.
+pub fn lines(text: &[u8]) -> impl Iterator<Item = (usize, &[u8])> {
+    let text = text.strip_prefix(b"\xef\xbb\xbf").unwrap_or(text);
     (1..)
         .zip(text.split(|&byte| byte == b'\n'))
         .map(|(number, line)| {
-            let line = line.split(|&byte| byte == b'#').next().unwrap_or(line);
-            let line = std::str::from_utf8(line).or_else(|_| bad(number, "not a readable text"));
-            (number, line)
+            let end = line.iter().position(|&byte| byte == b'#');
+            (number, &line[..end.unwrap_or(line.len())])
         })
+}
+
+fn readable(number: usize, line: &[u8]) -> Result<&str, BadText> {
+    match std::str::from_utf8(line) {
+        Ok(line) if is_text(line.as_bytes()) => Ok(line),
+        _ => bad(number, "not a readable text"),
+    }
+}
+
+/// A line of a text: a command and its operands.
+pub struct Line<'a> {
+    pub number: usize,
+    pub command: &'a str,
+    operands: Vec<&'a str>,
+}
+
+/// The lines of a text that have a command.
+pub fn commands(text: &[u8]) -> impl Iterator<Item = Result<Line<'_>, BadText>> {
+    lines(text).filter_map(|(number, line)| {
+        let mut words = match readable(number, line) {
+            Ok(line) => line.split_ascii_whitespace(),
+            Err(bad) => return Some(Err(bad)),
+        };
+        let command = words.next()?;
+        let operands = words.collect();
+        Some(Ok(Line {
+            number,
+            command,
+            operands,
+        }))
+    })
+}
+
+impl<'a> Line<'a> {
+    /// The operands, if there are as many as these names.
+    pub fn operands<const N: usize>(&self, names: [&str; N]) -> Result<[&'a str; N], BadText> {
+        self.operands.as_slice().try_into().or_else(|_| {
+            let form = [&[self.command], names.as_slice()].concat().join(" ");
+            bad(self.number, format!("the command is `{form}`"))
+        })
+    }
+
+    /// A number that fits the operand's width. The library knows the limits.
+    pub fn value<T: TryFrom<u64>>(
+        &self,
+        name: &str,
+        word: &str,
+        limits: Option<(u64, u64)>,
+    ) -> Result<T, BadText> {
+        if !word.bytes().all(|byte| byte.is_ascii_digit()) {
+            let message = format!("the {name} `{word}` is not a whole number");
+            return bad(self.number, message);
+        }
+        let value = word.parse::<u64>().ok();
+        if let Some(value) = value.and_then(|value| T::try_from(value).ok()) {
+            return Ok(value);
+        }
+        let mut message = format!("the {name} {word} is too large to be written");
+        if let Some((least, most)) = limits {
+            message += &format!("; it must be from {least} to {most}");
+        }
+        bad(self.number, message)
+    }
 }
 
 /// Writes the stream of a text with one command a line: `open CAPACITY STOCK
 /// M`, then `shelve SIZE` and `count`. `#` starts a comment.
-pub fn read_text(text: &[u8]) -> Result<Vec<u8>, BadText> {
+pub fn read_text(text: &[u8]) -> Result<Source, BadText> {
     let mut stream: Option<StreamBuilder> = None;
-    for (number, line) in lines(text) {
-        let words: Vec<&str> = line?.split_whitespace().collect();
-        let Some((&command, operands)) = words.split_first() else {
-            continue;
-        };
-        let known: &[&str] = match command {
-            "open" => &["capacity", "stock", "m"],
-            "shelve" => &["size"],
-            "count" => &[],
-            _ => {
-                let message = format!("`{command}` is no command: open, shelve or count");
-                return bad(number, message);
+    let mut places = Vec::new();
+    for line in commands(text) {
+        let line = line?;
+        let offset = stream.as_ref().map_or(0, |stream| stream.bytes().len());
+        match line.command {
+            "open" => {
+                let opened = read_open(&line)?;
+                if stream.replace(opened).is_some() {
+                    return bad(line.number, "the shelf is already open");
+                }
             }
-        };
-        if operands.len() != known.len() {
-            let form = [&[command], known].concat().join(" ");
-            return bad(number, format!("the command is `{form}`"));
-        }
-        match (command, &mut stream) {
-            ("open", Some(_)) => return bad(number, "the shelf is already open"),
-            ("open", none) => {
-                *none = Some(StreamBuilder::open(
-                    operand(number, "capacity", operands[0])?,
-                    operand(number, "stock", operands[1])?,
-                    operand(number, "m", operands[2])?,
-                ));
+            "shelve" => {
+                let [size] = line.operands(["size"])?;
+                let size = line.value("size", size, None)?;
+                opened(&mut stream, line.number)?.shelve(size);
             }
-            (_, None) => return bad(number, "the first command must be `open capacity stock m`"),
-            ("shelve", Some(stream)) => {
-                stream.shelve(operand(number, "size", operands[0])?);
+            "count" => {
+                let [] = line.operands([])?;
+                opened(&mut stream, line.number)?.count();
             }
-            (_, Some(stream)) => {
-                stream.count();
+            other => {
+                let message = format!("`{other}` is no command: open, shelve or count");
+                return bad(line.number, message);
             }
         }
+        places.push((offset, line.number));
     }
     match stream {
-        Some(stream) => Ok(stream.into_bytes()),
+        Some(stream) => Ok(Source::of_text(stream.into_bytes(), places)),
         None => bad(
             1,
             "there is no command; the first is `open capacity stock m`",
@@ -75,34 +133,34 @@ pub fn read_text(text: &[u8]) -> Result<Vec<u8>, BadText> {
     }
 }
 
-/// A number that fits the operand's width. The library knows the limits.
-fn operand<T: TryFrom<u64>>(line: usize, name: &str, word: &str) -> Result<T, BadText> {
-    let digits = word.bytes().all(|byte| byte.is_ascii_digit());
-    if !digits || word.is_empty() {
-        return bad(line, format!("the {name} `{word}` is not a whole number"));
-    }
-    let number = word
-        .parse::<u64>()
-        .ok()
-        .and_then(|number| T::try_from(number).ok());
-    match number {
-        Some(number) => Ok(number),
-        None => bad(
-            line,
-            format!("the {name} {word} is too large to be written"),
-        ),
+fn read_open(line: &Line<'_>) -> Result<StreamBuilder, BadText> {
+    let [capacity, stock, m] = line.operands(["capacity", "stock", "m"])?;
+    let capacities = (1, MAX_CAPACITY.into());
+    let stocks = (1, MAX_STOCK.into());
+    let ms = (MIN_M.into(), MAX_M.into());
+    Ok(StreamBuilder::open(
+        line.value("capacity", capacity, Some(capacities))?,
+        line.value("stock", stock, Some(stocks))?,
+        line.value("m", m, Some(ms))?,
+    ))
+}
+
+fn opened(stream: &mut Option<StreamBuilder>, line: usize) -> Result<&mut StreamBuilder, BadText> {
+    match stream {
+        Some(stream) => Ok(stream),
+        None => bad(line, "the first command must be `open capacity stock m`"),
     }
 }
 
-/// Reads bytes in hex, with any spaces between, and `#` comments.
+/// Reads bytes in hex, with any white space between, and `#` comments.
 pub fn read_hex(text: &[u8]) -> Result<Vec<u8>, BadText> {
     let mut digits = Vec::new();
     let mut last = 1;
     for (number, line) in lines(text) {
-        for digit in line?.chars().filter(|c| !c.is_whitespace()) {
-            match digit.to_digit(16) {
+        for byte in line.iter().filter(|byte| !byte.is_ascii_whitespace()) {
+            match char::from(*byte).to_digit(16) {
                 Some(value) => digits.push(value as u8),
-                None => return bad(number, format!("`{digit}` is not a hex digit")),
+                None => return bad(number, "there is more here than hex digits"),
             }
             last = number;
         }
@@ -119,9 +177,14 @@ pub fn read_hex(text: &[u8]) -> Result<Vec<u8>, BadText> {
 #[cfg(test)]
 mod tests {
     use super::*;
+    use crate::source::Spot;
+
+    fn bytes(text: &[u8]) -> Result<Vec<u8>, BadText> {
+        read_text(text).map(|source| source.bytes)
+    }
 
     fn fault(text: &str) -> (usize, String) {
-        let bad = read_text(text.as_bytes()).unwrap_err();
+        let bad = bytes(text.as_bytes()).unwrap_err();
         (bad.line, bad.message)
     }
 
@@ -129,15 +192,32 @@ mod tests {
     fn a_text_becomes_a_stream() {
         let text = b"# a shelf\n\nopen 60 4 6\r\n  shelve 35 # a feature\ncount";
         let stream = [1, 0, 0, 0, 60, 0, 4, 6, 2, 0, 0, 0, 35, 3];
-        assert_eq!(read_text(text).unwrap(), stream);
+        assert_eq!(bytes(text).unwrap(), stream);
         let hex = b"01 0000003C 0004 06 # opening\n02 00000023\n\n03\n";
         assert_eq!(read_hex(hex).unwrap(), stream);
     }
 
     #[test]
+    fn the_mark_of_utf8_and_carriage_returns_are_skipped() {
+        let stream = [1, 0, 0, 0, 60, 0, 4, 6, 3];
+        let text = b"\xef\xbb\xbfopen 60 4 6\r\n\x0ccount\r\n";
+        assert_eq!(bytes(text).unwrap(), stream);
+        let hex = b"\xef\xbb\xbf010000003C 000406\r\n03 # caf\xe9\r\n";
+        assert_eq!(read_hex(hex).unwrap(), stream);
+    }
+
+    #[test]
+    fn a_command_is_found_at_its_line() {
+        let source = read_text(b"\nopen 60 4 6\ncount\n\n\nshelve 3").unwrap();
+        let lines = [0, 7, 8, 9, 13].map(|offset| source.spot(offset));
+        assert_eq!(lines, [2, 2, 3, 6, 6].map(Spot::Line));
+        assert_eq!(Source::raw(vec![]).spot(7), Spot::Byte(7));
+    }
+
+    #[test]
     fn limits_are_left_to_the_library() {
-        assert_eq!(read_text(b"open 0 0 0").unwrap(), [1, 0, 0, 0, 0, 0, 0, 0]);
-        assert!(read_text(b"open 4294967295 65535 255").is_ok());
+        assert_eq!(bytes(b"open 0 0 0").unwrap(), [1, 0, 0, 0, 0, 0, 0, 0]);
+        assert!(bytes(b"open 4294967295 65535 255").is_ok());
     }
 
     #[test]
@@ -154,7 +234,10 @@ mod tests {
         assert_eq!(fault("open 60 4 6\nshelve 4294967296").0, 2);
         assert_eq!(fault("open 60 65536 6").0, 1);
         assert_eq!(fault("open 60 4 256").0, 1);
-        assert_eq!(read_text(b"open 60 4 6\n\xff").unwrap_err().line, 2);
+        assert_eq!(bytes(b"open 60 4 6\n\xff").unwrap_err().line, 2);
+        assert_eq!(bytes(b"open 60 4 6\n\x1b[m").unwrap_err().line, 2);
+        assert!(bytes(b"open 60 4 6 # \xff").is_ok());
+        assert!(fault("open 60 65536 6").1.ends_with("from 1 to 512"));
         assert_eq!(read_hex(b"01\n0g").unwrap_err().line, 2);
         assert_eq!(read_hex(b"01\n0\n\n").unwrap_err().line, 2);
     }

@@ -1,0 +1,145 @@
+//! What the stream came to as one JSON object, its keys always in this order.
+
+use std::fmt::Write;
+
+use shelf::{Answer, Command, Opening};
+
+use crate::outcome::{Outcome, Shelved};
+use crate::packing::Packing;
+use crate::source::{Source, MAX_STREAM};
+
+/// The object; `reasons` are the sentences about a stream refused.
+pub fn object(source: &Source, outcome: &Outcome, reasons: &[String]) -> String {
+    match outcome {
+        Outcome::TooLong => refused(&format!("\"longest\": {MAX_STREAM}"), reasons),
+        Outcome::Refused(refusal) => {
+            let (number, offset) = (refusal.fault.number(), refusal.offset);
+            refused(
+                &format!("\"number\": {number}, \"offset\": {offset}"),
+                reasons,
+            )
+        }
+        Outcome::Shelved(shelved) => accepted(source, shelved),
+    }
+}
+
+fn refused(refusal: &str, reasons: &[String]) -> String {
+    let reasons = array(reasons.iter().map(|reason| string(reason)));
+    format!("{{\n\"accepted\": false,\n\"refusal\": {{{refusal}}},\n\"reasons\": {reasons}\n}}\n")
+}
+
+fn accepted(source: &Source, shelved: &Shelved) -> String {
+    let Opening { capacity, stock, m } = shelved.packing.opening;
+    let answers = array(
+        (1..)
+            .zip(shelf::answers(&source.bytes, &shelved.words))
+            .map(|(number, answered)| answer(number, answered)),
+    );
+    let totals = shelved.totals;
+    let (masters, opened) = (totals.items, totals.opened);
+    let cartridges = cartridges(&shelved.packing);
+    format!(
+        "{{\n\"accepted\": true,\n\
+         \"opening\": {{\"capacity\": {capacity}, \"stock\": {stock}, \"m\": {m}}},\n\
+         \"answers\": {answers},\n\
+         \"totals\": {{\"masters\": {masters}, \"cartridges\": {opened}}},\n\
+         \"cartridges\": {cartridges}\n}}\n"
+    )
+}
+
+fn answer(number: usize, (command, answer): (Command, Answer)) -> String {
+    let size = match command {
+        Command::Shelve { size } => format!(", \"size\": {size}"),
+        Command::Count => String::new(),
+    };
+    let result = match answer {
+        Answer::Placed { bin } => format!("\"cartridge\": {bin}"),
+        Answer::Counted { opened } => format!("\"count\": {opened}"),
+        Answer::Refused(why) => {
+            let reason = string(&why.to_string());
+            format!("\"refusal\": {}, \"reason\": {reason}", why.number())
+        }
+    };
+    format!("{{\"command\": {number}{size}, {result}}}")
+}
+
+fn cartridges(packing: &Packing) -> String {
+    array((1..).zip(&packing.bins).map(|(number, bin): (usize, _)| {
+        let (class, load) = (bin.class, bin.load());
+        let free = packing.opening.capacity - load;
+        let commands: Vec<usize> = bin.commands().collect();
+        format!(
+            "{{\"number\": {number}, \"class\": {class}, \"load\": {load}, \"free\": {free}, \
+             \"commands\": {commands:?}}}"
+        )
+    }))
+}
+
+/// An array with an element a line.
+fn array(elements: impl Iterator<Item = String>) -> String {
+    let elements: Vec<String> = elements.collect();
+    if elements.is_empty() {
+        return "[]".to_string();
+    }
+    format!("[\n{}\n]", elements.join(",\n"))
+}
+
+fn string(text: &str) -> String {
+    let mut quoted = String::from("\"");
+    for character in text.chars() {
+        match character {
+            '"' | '\\' => quoted.extend(['\\', character]),
+            '\0'..='\x1f' => {
+                let code = u32::from(character);
+                write!(quoted, "\\u{code:04x}").expect("a string takes all");
+            }
+            _ => quoted.push(character),
+        }
+    }
+    quoted.push('"');
+    quoted
+}
+
+#[cfg(test)]
+mod tests {
+    use super::*;
+
+    #[test]
+    fn strings_are_escaped() {
+        assert_eq!(string("a \"b\" \\ \n é"), r#""a \"b\" \\ \u000a é""#);
+    }
+
+    #[test]
+    fn a_shelf_is_one_object() {
+        let mut stream = shelf::StreamBuilder::open(60, 1, 6);
+        stream.shelve(35).shelve(61).count();
+        let source = Source::raw(stream.into_bytes());
+        let outcome = Outcome::of(&source);
+        let expected = r#"{
+"accepted": true,
+"opening": {"capacity": 60, "stock": 1, "m": 6},
+"answers": [
+{"command": 1, "size": 35, "cartridge": 1},
+{"command": 2, "size": 61, "refusal": 9, "reason": "size above the capacity"},
+{"command": 3, "count": 1}
+],
+"totals": {"masters": 1, "cartridges": 1},
+"cartridges": [
+{"number": 1, "class": 1, "load": 35, "free": 25, "commands": [1]}
+]
+}
+"#;
+        assert_eq!(object(&source, &outcome, &[]), expected);
+    }
+
+    #[test]
+    fn a_refusal_is_one_object() {
+        let source = Source::raw(vec![]);
+        let outcome = Outcome::of(&source);
+        let expected = "{\n\"accepted\": false,\n\
+                        \"refusal\": {\"number\": 1, \"offset\": 0},\n\
+                        \"reasons\": [\n\"because\"\n]\n}\n";
+        let reasons = ["because".to_string()];
+        assert_eq!(object(&source, &outcome, &reasons), expected);
+    }
+}

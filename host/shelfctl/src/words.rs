@@ -1,0 +1,187 @@
+//! Refusals in words, for people: each sentence starts with its place.
+
+use std::fmt::Display;
+
+use shelf::{
+    Answer, Command, Opening, StreamFault, StreamRefusal, MAX_CAPACITY, MAX_COMMANDS, MAX_M,
+    MAX_STOCK, MIN_M,
+};
+
+use crate::source::{Source, MAX_STREAM};
+
+/// A long list of refused masters is cut here.
+const MOST_MASTERS: usize = 20;
+
+/// Why the whole stream was refused.
+pub fn of_stream(source: &Source, refusal: StreamRefusal) -> Vec<String> {
+    let reasons = match refusal.fault {
+        StreamFault::NotOpened => vec![not_opened(&source.bytes)],
+        StreamFault::UnknownCommand => {
+            let byte = source.bytes[refusal.offset];
+            vec![format!(
+                "there is no command {byte:02X}: only 01, 02 and 03"
+            )]
+        }
+        StreamFault::CutShort => {
+            let byte = source.bytes[refusal.offset];
+            vec![format!(
+                "the stream ends before the operands of {byte:02X} do"
+            )]
+        }
+        StreamFault::SecondOpening => vec!["a second opening; a stream has one".to_string()],
+        StreamFault::OpeningOutsideLimits => outside_limits(&source.bytes),
+        StreamFault::TooManyCommands => vec![too_many_commands()],
+        StreamFault::TooFewAnswerWords => vec![refusal.fault.to_string()],
+    };
+    let spot = source.spot(refusal.offset);
+    reasons.iter().map(|why| format!("{spot}: {why}")).collect()
+}
+
+fn not_opened(stream: &[u8]) -> String {
+    let found = match stream.first() {
+        Some(byte) => format!("starts with {byte:02X}"),
+        None => "is empty".to_string(),
+    };
+    format!("the stream {found}; it must start with the opening, 01")
+}
+
+fn too_many_commands() -> String {
+    let next = MAX_COMMANDS + 1;
+    format!("this is command {next}; at most {MAX_COMMANDS} may follow the opening")
+}
+
+fn outside_limits(stream: &[u8]) -> Vec<String> {
+    let Opening { capacity, stock, m } = Opening::read(stream).expect("refused for its limits");
+    let operands = [
+        outside("capacity", capacity, 1, MAX_CAPACITY),
+        outside("stock", stock, 1, MAX_STOCK),
+        outside("m", m, MIN_M, MAX_M),
+    ];
+    operands.into_iter().flatten().collect()
+}
+
+/// What to say of a number outside its limits.
+pub fn outside<T: PartialOrd + Display>(
+    name: &str,
+    number: T,
+    least: T,
+    most: T,
+) -> Option<String> {
+    let within = least <= number && number <= most;
+    (!within).then(|| format!("the {name} is {number}; it must be from {least} to {most}"))
+}
+
+/// Why the stream was not looked at: it is longer than `shelve` takes.
+pub fn of_length(source: &Source) -> Vec<String> {
+    let spot = source.spot(MAX_STREAM);
+    let long = format!("{spot}: here the stream grows longer than {MAX_STREAM} bytes");
+    if !source.is_text() {
+        return vec![long];
+    }
+    // So long a text has too many commands as well, and its author counts those.
+    let next = shelf::commands(&source.bytes).nth(MAX_COMMANDS);
+    let many = next.map(|(offset, _)| format!("{}: {}", source.spot(offset), too_many_commands()));
+    many.into_iter().chain([long]).collect()
+}
+
+/// Which masters of an accepted stream were refused, and why.
+pub fn of_masters(source: &Source, words: &[u16]) -> Vec<String> {
+    let mut sentences = Vec::new();
+    let mut more = 0;
+    let offsets = shelf::commands(&source.bytes).map(|(offset, _)| offset);
+    let answers = shelf::answers(&source.bytes, words).zip(offsets);
+    for (number, (answered, offset)) in (1..).zip(answers) {
+        let (Command::Shelve { size }, Answer::Refused(why)) = answered else {
+            continue;
+        };
+        if sentences.len() == MOST_MASTERS {
+            more += 1;
+            continue;
+        }
+        let spot = source.spot(offset);
+        let master = format!("the master of {size} units (command {number})");
+        let refusal = why.number();
+        sentences.push(format!(
+            "{spot}: {master} was refused with {refusal}: {why}"
+        ));
+    }
+    match more {
+        0 => {}
+        1 => sentences.push("... and 1 more refused master".to_string()),
+        more => sentences.push(format!("... and {more} more refused masters")),
+    }
+    sentences
+}
+
+#[cfg(test)]
+mod tests {
+    use super::*;
+    use crate::text::read_text;
+
+    fn refused(stream: &[u8]) -> Vec<String> {
+        let source = Source::raw(stream.to_vec());
+        let refusal = shelf::shelve(stream, &mut [0; MAX_COMMANDS]).unwrap_err();
+        of_stream(&source, refusal)
+    }
+
+    #[test]
+    fn a_refused_stream_is_explained() {
+        assert_eq!(
+            refused(b""),
+            ["byte 0: the stream is empty; it must start with the opening, 01"]
+        );
+        assert_eq!(
+            refused(b"o"),
+            ["byte 0: the stream starts with 6F; it must start with the opening, 01"]
+        );
+        assert_eq!(
+            refused(&[1, 0, 0, 0, 60, 0, 4, 6, 3, 7]),
+            ["byte 9: there is no command 07: only 01, 02 and 03"]
+        );
+        assert_eq!(
+            refused(&[1, 0, 0, 0, 60, 0, 4, 6, 2, 0]),
+            ["byte 8: the stream ends before the operands of 02 do"]
+        );
+        assert_eq!(
+            refused(&[1, 0, 0, 0, 60, 0, 4, 6, 1]),
+            ["byte 8: a second opening; a stream has one"]
+        );
+        assert_eq!(
+            refused(&[1, 0, 0, 0, 0, 2, 1, 10]),
+            [
+                "byte 0: the capacity is 0; it must be from 1 to 16777216",
+                "byte 0: the stock is 513; it must be from 1 to 512",
+                "byte 0: the m is 10; it must be from 6 to 9",
+            ]
+        );
+    }
+
+    #[test]
+    fn the_command_too_many_is_found_in_a_text() {
+        let source = read_text(format!("open 60 4 6{}", "\n\ncount".repeat(4097)).as_bytes());
+        let source = source.unwrap_or_else(|_| panic!("a good text"));
+        let refusal = shelf::shelve(&source.bytes, &mut [0; MAX_COMMANDS]).unwrap_err();
+        assert_eq!(
+            of_stream(&source, refusal),
+            ["line 8195: this is command 4097; at most 4096 may follow the opening"]
+        );
+    }
+
+    #[test]
+    fn a_long_list_of_refused_masters_is_cut() {
+        let listed = |masters: usize| {
+            let source =
+                read_text(format!("open 1 1 6{}", "\nshelve 2".repeat(masters)).as_bytes());
+            let source = source.unwrap_or_else(|_| panic!("a good text"));
+            let mut words = vec![0; masters];
+            shelf::shelve(&source.bytes, &mut words).unwrap();
+            of_masters(&source, &words)
+        };
+        let first = "line 2: the master of 2 units (command 1) was refused with 9: \
+                     size above the capacity";
+        assert_eq!(listed(1), [first]);
+        assert_eq!(listed(20).len(), 20);
+        assert_eq!(listed(21)[20], "... and 1 more refused master");
+        assert_eq!(listed(25)[20], "... and 5 more refused masters");
+    }
+}
