@@ -1,0 +1,71 @@
+# Makes rows of a text of commands, without comments: the line of each command
+# and its bytes in hex. What is wrong with the text is said, with status 2.
+# `unreadable` is the first line that is no text, or 0.
+
+function bad(message) {
+    print "run: line " NR ": " message >"/dev/stderr"
+    failed = 1
+    exit 2
+}
+
+# The command must have so many operands, of these names.
+function operands(count, names) {
+    if (NF - 1 != count)
+        bad("the command is `" $1 (count > 0 ? " " : "") names "`")
+}
+
+# A number that fits the operand's width. The library knows the limits.
+function number(name, word, largest, limits) {
+    if (word !~ /^[0-9]+$/)
+        bad("the " name " `" word "` is not a whole number")
+    if (word + 0 > largest)
+        bad("the " name " " word " is too large to be written" limits)
+    return word + 0
+}
+
+function must_be_open() {
+    if (!opened)
+        bad("the first command must be `open capacity stock m`")
+}
+
+NR == unreadable { bad("not a readable text") }
+
+NF == 0 { next }
+
+$1 == "open" {
+    operands(3, "capacity stock m")
+    capacity = number("capacity", $2, 4294967295, "; it must be from 1 to 16777216")
+    stock = number("stock", $3, 65535, "; it must be from 1 to 512")
+    m = number("m", $4, 255, "; it must be from 6 to 9")
+    if (opened)
+        bad("the shelf is already open")
+    opened = 1
+    printf "%d 01%08X%04X%02X\n", NR, capacity, stock, m
+    next
+}
+
+$1 == "shelve" {
+    operands(1, "size")
+    size = number("size", $2, 4294967295, "")
+    must_be_open()
+    printf "%d 02%08X\n", NR, size
+    next
+}
+
+$1 == "count" {
+    operands(0, "")
+    must_be_open()
+    print NR " 03"
+    next
+}
+
+{ bad("`" $1 "` is no command: open, shelve or count") }
+
+END {
+    if (failed)
+        exit 2
+    if (!opened) {
+        NR = 1
+        bad("there is no command; the first is `open capacity stock m`")
+    }
+}

@@ -1,0 +1,81 @@
+# Says in words what was refused, as shelfctl does (host/shelfctl/src/words.rs).
+# It reads three files, told apart by `part`: the rows of a text (none for hex
+# and raw input), the bytes of the stream, and what `shelve` printed.
+
+function say(place, words) { print "run: " place ": " words }
+
+# Where command n was written; the opening is 0.
+function spot(n) { return rows ? "line " line[n] : "byte " start[n] }
+
+function hex(at) { return sprintf("%02X", byte[at]) }
+
+function word(at) { return ((byte[at] * 256 + byte[at + 1]) * 256 + byte[at + 2]) * 256 + byte[at + 3] }
+
+# Where each command starts, and the sizes of the masters.
+function walk(    at, width) {
+    start[0] = 0
+    for (at = 8; at < bytes; at += width) {
+        start[++commands] = at
+        width = byte[at] == 2 ? 5 : 1
+        size[commands] = word(at + 1)
+    }
+}
+
+function limits(name, number, least, most) {
+    if (number < least || number > most)
+        say(spot(0), "the " name " is " number "; it must be from " least " to " most)
+}
+
+function too_many() { say(spot(4097), "this is command 4097; at most 4096 may follow the opening") }
+
+function refuse_stream(number, offset) {
+    if (number == 1)
+        say("byte 0", "the stream " (bytes ? "starts with " hex(0) : "is empty") "; it must start with the opening, 01")
+    else if (number == 2)
+        say("byte " offset, "there is no command " hex(offset) ": only 01, 02 and 03")
+    else if (number == 3)
+        say("byte " offset, "the stream ends before the operands of " hex(offset) " do")
+    else if (number == 4)
+        say("byte " offset, "a second opening; a stream has one")
+    else if (number == 5) {
+        limits("capacity", word(1), 1, 16777216)
+        limits("stock", byte[5] * 256 + byte[6], 1, 512)
+        limits("m", byte[7], 6, 9)
+    } else
+        too_many()
+}
+
+function refuse_master(n, number) {
+    if (++refused <= 20)
+        say(spot(n), "the master of " size[n] " units (command " n ") was refused with " number ": " why[number])
+}
+
+BEGIN {
+    OFMT = CONVFMT = "%.0f"
+    why[8] = "size 0"
+    why[9] = "size above the capacity"
+    why[10] = "a new cartridge is called for and the stock is spent"
+}
+
+part == "row" { line[rows++] = $1; next }
+
+part == "byte" { for (i = 1; i <= NF; i++) byte[bytes++] = $i; next }
+
+FNR == 1 { walk() }
+
+$1 == "X" { refuse_stream($2, $3) }
+
+# So long a text has too many commands as well, and its author counts those.
+$1 == "L" {
+    if (rows)
+        too_many()
+    say(rows ? spot(commands) : "byte 32768", "here the stream grows longer than 32768 bytes")
+}
+
+$1 == "R" { refuse_master($2, $3) }
+
+END {
+    more = refused - 20
+    if (more > 0)
+        print "run: ... and " more " more refused master" (more > 1 ? "s" : "")
+}
