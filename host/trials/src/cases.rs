@@ -550,23 +550,25 @@ fn worst_lists(cases: &mut Cases) {
         family(
             cases,
             &format!("Theorem 1, n = {n}"),
+            6,
             families::theorem_1_slowly(n),
-            None,
         );
     }
     family(
         cases,
         "Theorem 1 by quarters",
+        6,
         families::theorem_1_by_quarters(7),
-        None,
     );
-    for rounds in 0..=families::TIGHT_ROUNDS {
-        let list = families::tight(rounds);
-        family(cases, &format!("tight, k = {}", list.k), list, Some(5));
+    for k in 1..=families::TIGHT_MOST {
+        for m in 6..=9 {
+            let name = format!("tight, k = {k}, m = {m}");
+            family(cases, &name, m, families::tight(k));
+        }
     }
 }
 
-fn family(cases: &mut Cases, name: &str, family: Family, above: Option<u32>) {
+fn family(cases: &mut Cases, name: &str, m: u8, family: Family) {
     let Family {
         capacity,
         sizes,
@@ -574,7 +576,7 @@ fn family(cases: &mut Cases, name: &str, family: Family, above: Option<u32>) {
         k,
         opened,
     } = family;
-    let mut stream = opening(capacity, 512, 6);
+    let mut stream = opening(capacity, 512, m);
     for &size in &sizes {
         stream.extend(shelve(size));
     }
@@ -598,9 +600,4 @@ fn family(cases: &mut Cases, name: &str, family: Family, above: Option<u32>) {
     cases.check(name, 3 * opened <= 5 * k + 15, || {
         format!("{opened} for {k}")
     });
-    if let Some(above) = above {
-        cases.check(name, 3 * opened == 5 * k + above, || {
-            format!("{opened} for {k}")
-        });
-    }
 }

@@ -58,81 +58,93 @@ pub fn theorem_1_slowly(n: usize) -> Family {
     theorem_1(capacity, &delta)
 }
 
-/// The largest `rounds` of [`tight`] within the capacity's limit.
-pub const TIGHT_ROUNDS: u32 = 10;
+/// The largest `k` of [`tight`]: for more, the method would pass the stock.
+pub const TIGHT_MOST: u32 = 306;
 
-/// A list that reaches `3 * opened = 5 * k + 5`, with `k = 5 + 3 * rounds`.
+/// A list for which the method opens as many bins as it ever does where `k` are
+/// the fewest: (5k + 5) / 3, rounded down. It has `k` items above a half, so no
+/// plan has fewer bins.
+pub fn tight(k: u32) -> Family {
+    let (capacity, list) = match k {
+        1 => (60, vec![(31, 1), (21, 1), (8, 1)]),
+        2 => (11, vec![(6, 1), (5, 1), (6, 2), (4, 2), (1, 2)]),
+        _ => with_near_quarters(k),
+    };
+    let (sizes, bins) = list.into_iter().unzip();
+    Family {
+        capacity,
+        sizes,
+        bins,
+        k,
+        opened: (5 * k + 5) / 3,
+    }
+}
+
+/// [`tight`] from 3 on: the capacity, and the sizes with their bins in the plan.
 ///
 /// In the plan every bin has an item just above a half. Two of them take a B1
-/// and a B2 beside it, each with a small item; the rest take pairs near a
-/// quarter, one above and one below. The method puts the near-quarters three
-/// to a bin, the excess of each bin shutting out all that come later, and has
-/// no B1 or B2 beside an A.
-pub fn tight(rounds: u32) -> Family {
-    // Distances from a quarter, a bin at a time from the last one back. A
-    // distance d >= 0 lies in the plan with -d - 1.
-    let mut bins: Vec<[i64; 3]> = Vec::new();
-    let last = 1;
-    let mut lowest = 0; // the farthest below a quarter so far
-    let mut unmatched = vec![1];
-    for round in 0..=rounds {
-        if round > 0 {
-            let below = [-unmatched.remove(0) - 1, -unmatched.remove(0) - 1];
-            let above = 1 - lowest - below[0] - below[1];
-            lowest = lowest.min(below[0]).min(below[1]);
-            bins.push([above, below[0], below[1]]);
-            unmatched.push(above);
-        }
-        let below = -unmatched.remove(0) - 1;
-        let sum = 1 - lowest - below;
-        let above = [sum - sum / 2, sum / 2];
-        lowest = lowest.min(below);
-        bins.push([above[0], above[1], below]);
-        unmatched.extend(above);
+/// and a B2 beside it, each with a small item; each of the rest takes a pair
+/// near a quarter. The method puts the near-quarters three to a bin, the excess
+/// of each bin shutting out all that come later, and has no B1 or B2 beside an
+/// A.
+fn with_near_quarters(k: u32) -> (u32, Vec<(u32, u32)>) {
+    const QUARTER: i64 = 250_000;
+    const CAPACITY: i64 = 4 * QUARTER + 1;
+    const A: i64 = CAPACITY / 2 + 1;
+    const B1: i64 = 2 * CAPACITY / 5 + 1;
+    const B2: i64 = CAPACITY / 3 + 1;
+
+    let mut list = vec![(CAPACITY - A - B1, 1), (CAPACITY - A - B2, 2)];
+    let near = distances(k as usize - 2);
+    let bins = pair_up(&near);
+    list.extend(near.iter().map(|d| QUARTER + d).zip(bins));
+    list.extend([(B1, 1), (B2, 2)]);
+    list.extend((1..=k).map(|bin| (A, bin)));
+    let list = list.into_iter().map(|(size, bin)| (size as u32, bin));
+    (CAPACITY as u32, list.collect())
+}
+
+/// The distances from a quarter of so many pairs, in the order of sending: those
+/// below it in levels, each farther from it than what the next one leaves free.
+/// A level has twice as many as the one before, so that few levels are needed.
+fn distances(pairs: usize) -> Vec<i64> {
+    if pairs == 1 {
+        return vec![-1, 1];
     }
-    // The first bin has the two small items, near a tenth and a sixth, and the
-    // partners of the two still unmatched: a sixtieth above three quarters,
-    // less what the partners lack, and that must shut out the lowest.
-    let lacking: i64 = unmatched.iter().map(|d| d + 1).sum();
-    let capacity = (60 * (lacking - lowest + 6)).max(600) / 60 * 60;
-
-    let quarter = capacity / 4;
-    let a = capacity / 2 + 1;
-    let b1 = 2 * capacity / 5 + 1;
-    let b2 = capacity / 3 + 1;
-    let mut sizes = vec![capacity - a - b1, capacity - a - b2];
-    sizes.extend(unmatched.iter().map(|d| quarter - d - 1));
-    sizes.extend(bins.iter().rev().flatten().map(|d| quarter + d));
-    sizes.push(quarter + last);
-    let pairs = sizes.len() - 2;
-    sizes.extend([b1, b2]);
-    let k = 2 + pairs / 2;
-    sizes.extend(std::iter::repeat_n(a, k));
-
-    // The plan: small items with B1 and B2, then each pair as it is met.
-    let mut plan = vec![0; sizes.len()];
-    let mut next = 2;
-    for i in 2..2 + pairs {
-        if plan[i] == 0 {
-            next += 1;
-            plan[i] = next;
-            let partner = capacity - a - sizes[i];
-            let j = (i + 1..2 + pairs).find(|&j| plan[j] == 0 && sizes[j] == partner);
-            plan[j.expect("every near-quarter has its partner")] = next;
+    let mut levels = Vec::new();
+    let mut left = pairs - 2;
+    let mut most = 4;
+    while left > 1 {
+        let count = most.min(left - left % 2);
+        levels.push(count);
+        left -= count;
+        most = 2 * count;
+    }
+    let below = |level: usize| 2 * 3i64.pow((levels.len() - level) as u32) - 1;
+    let mut near = vec![-below(0); 2];
+    let mut above = 0;
+    for (level, count) in (1..).zip(&levels) {
+        for _ in 0..count / 2 {
+            near.extend([below(level - 1), -below(level), -below(level)]);
+            above += 1;
         }
     }
-    for first in [0, 2 + pairs] {
-        plan[first] = 1;
-        plan[first + 1] = 2;
+    near.extend(std::iter::repeat_n(-1, left));
+    near.extend(std::iter::repeat_n(1, pairs - above));
+    near
+}
+
+/// Bins from 3 up, one for each pair: the farthest above with the farthest below.
+fn pair_up(near: &[i64]) -> Vec<u32> {
+    let mut bins = vec![0; near.len()];
+    for below in [true, false] {
+        let mut side: Vec<usize> = (0..near.len())
+            .filter(|&i| (near[i] < 0) == below)
+            .collect();
+        side.sort_by_key(|&i| -near[i].abs());
+        for (bin, i) in (3..).zip(side) {
+            bins[i] = bin;
+        }
     }
-    for (bin, entry) in plan[4 + pairs..].iter_mut().enumerate() {
-        *entry = bin as u32 + 1;
-    }
-    Family {
-        capacity: capacity as u32,
-        sizes: sizes.into_iter().map(|size| size as u32).collect(),
-        bins: plan,
-        k: k as u32,
-        opened: 10 + 5 * rounds,
-    }
+    bins
 }

@@ -90,7 +90,7 @@ fn decreasing(rng: &mut Rng) -> PlanTrial {
 fn family(rng: &mut Rng) -> PlanTrial {
     let family = match rng.between(0, 1) {
         0 => families::theorem_1_slowly(rng.pick(&[7, 13, 19, 25])),
-        _ => families::tight(rng.between(0, families::TIGHT_ROUNDS.into()) as u32),
+        _ => families::tight(rng.between(1, families::TIGHT_MOST.into()) as u32),
     };
     passing(
         "family",

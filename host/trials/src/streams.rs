@@ -251,7 +251,7 @@ fn family(rng: &mut Rng) -> Vec<Vec<u8>> {
     } = match rng.between(0, 2) {
         0 => families::theorem_1_by_quarters(rng.pick(&[3, 5, 7, 9])),
         1 => families::theorem_1_slowly(rng.pick(&[7, 13, 19, 25])),
-        _ => families::tight(rng.between(0, families::TIGHT_ROUNDS.into()) as u32),
+        _ => families::tight(rng.between(1, families::TIGHT_MOST.into()) as u32),
     };
     match rng.between(0, 3) {
         0 => {
