@@ -4,7 +4,7 @@ use mathlib.Core.Path.{_≡_, ap, _∙_}
 use mathlib.Core.List.{List, [], _∷_, List·Memᴰ·not-nil}
 use native.Mathlib.Omega.{arith}
 use lib.ListN.{take, length-map}
-use Rattle.packing.specs.Prelude.{total, Opening, Command, Counted}
+use Rattle.packing.specs.Prelude.{total, Opening, Command}
 use Rattle.packing.specs.Bins.{Packing, empty, opened}
 use Rattle.packing.specs.Placing.{after}
 use Rattle.packing.specs.Run.{item, packing, placements}
@@ -59,7 +59,7 @@ module _ (o : Opening) (cs : List Command) where
   counts =
       record {
         bins = opened-is o cs;
-        answered = λ j later e. count-from o j empty cs later e ∙ ap (λ n. Counted n ∷ []) (opened-is o (take j cs));
+        answered = λ j later e. count-from o j empty cs later e ∙ ap (λ n. n ∷ []) (opened-is o (take j cs));
         returned = rw (opened-is o cs, length-map);
       }
 

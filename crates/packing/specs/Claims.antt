@@ -1,8 +1,8 @@
 -- What is promised of the model, as statements; ../proofs shows each of every opening and every list of commands. Demand 3 and the plan of a packing's
 -- own answers are stated in the crate worst_case.
 use Rattle.packing.specs.Prelude.{ℕ, _+_, _*_, _≤_, _<_, _≡_, _↔_, Bool, true, _||_, List, [], _∷_, map, zipWith, reverse, length, take, drop, List·Memᴰ, total, _=?_}
-use Rattle.packing.specs.Prelude.{Opening, SizeClass, A, B1, B2, X, Command, Shelve, Count, Counted, Refused, StockSpent, Entry, StreamResult, PlanResult}
-use Rattle.packing.specs.Refusals.{word, outcomeOf, streamGives, planGives}
+use Rattle.packing.specs.Prelude.{Opening, SizeClass, A, B1, B2, X, Command, Shelve, Count, Refused, StockSpent, Entry, StreamResult, PlanResult}
+use Rattle.packing.specs.Refusals.{word, outcomeOf, figures, streamGives, planGives}
 use Rattle.packing.specs.Bins.{Item, Bin, Packing, opened, load, itemsOf, kind}
 use Rattle.packing.specs.Placing.{permitted, target, outcome}
 use Rattle.packing.specs.Limits.{openingGood, mostCommands}
@@ -63,8 +63,8 @@ module _ (o : Opening) (cs : List Command) where
   -- A count answered equals the number opened there, and so does, after the last command, the total returned.
   pub record Counts : Type 0 where
     pub bins : opened (packing o cs) ≡ numberOpened o cs
-    pub answered : (j : ℕ) (later : List Command) → drop j cs ≡ Count ∷ later → take 1 (drop j (outcomes o cs)) ≡ Counted (numberOpened o (take j cs)) ∷ []
-    pub returned : result (accepted o cs) ≡ StreamResult.Accepted (length (acceptedSizes o cs)) (numberOpened o cs)
+    pub answered : (j : ℕ) (later : List Command) → drop j cs ≡ Count ∷ later → take 1 (drop j (map word (outcomes o cs))) ≡ numberOpened o (take j cs) ∷ []
+    pub returned : streamGives (result (accepted o cs)) ≡ figures (length (acceptedSizes o cs) ∷ numberOpened o cs ∷ [])
 
 -- Document 01's numbers give a result back: no two results share them.
 abbrev pub StreamGivesBack : Type 0
