@@ -1,6 +1,10 @@
 /*
  * shelf.h - the shelving library: Refined First-Fit over a command stream, and
- * the plan checker. Link with libshelf.a.
+ * the plan checker. docs/MANUAL.md tells the whole of it.
+ *
+ * Link with libshelf.a, for x86-64 Linux: `rt staticlib shelf` proves the
+ * library and writes target/staticlib/libshelf.a. A call allocates nothing and
+ * needs about 21 KB of stack (shelve_stream) or 17 KB (check_plan).
  *
  * Both calls are total: every input within the rules on pointers below has the
  * result described here. Neither call keeps a pointer, or any state, after it
