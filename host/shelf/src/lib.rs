@@ -27,6 +27,7 @@
 //! keep the numbers 1 to 16 of the specification; `number` gives them.
 
 mod refusals;
+mod results;
 mod stream;
 
 pub use refusals::{ItemRefusal, PlanFault, PlanRefusal, StreamFault, StreamRefusal};
@@ -45,9 +46,6 @@ pub const MAX_COMMANDS: usize = 4_096;
 /// The most entries of a plan, the most items it is checked against, and the
 /// largest `k`.
 pub const MAX_ENTRIES: usize = 4_096;
-
-/// Set in the high half of a refused stream's result.
-const REFUSED: u32 = 1 << 31;
 
 mod ffi {
     extern "C" {
@@ -106,7 +104,7 @@ pub fn shelve(stream: &[u8], answers: &mut [u16]) -> Result<Totals, StreamRefusa
     // SAFETY: each pointer comes with the length of the slice it was taken
     // from; `answers` is borrowed mutably, so it overlaps nothing; the library
     // keeps neither the pointers nor any state after the call.
-    let result = unsafe {
+    let code = unsafe {
         ffi::shelve_stream(
             stream.as_ptr(),
             stream.len(),
@@ -114,19 +112,9 @@ pub fn shelve(stream: &[u8], answers: &mut [u16]) -> Result<Totals, StreamRefusa
             answers.len(),
         )
     };
-    if let Ok(items) = u16::try_from(result >> 16) {
-        return Ok(Totals {
-            items,
-            opened: result as u16,
-        });
-    }
-    let number = (result >> 32) as u32 ^ REFUSED;
-    match StreamFault::from_number(number) {
-        Some(fault) => Err(StreamRefusal {
-            fault,
-            offset: result as u32 as usize,
-        }),
-        None => panic!("shelve_stream returned {result:#x}, which its interface excludes"),
+    match results::of_stream(code) {
+        Some(result) => result,
+        None => panic!("shelve_stream returned {code:#x}, which its interface excludes"),
     }
 }
 
@@ -163,7 +151,7 @@ pub fn check_plan_rows(
 ) -> Result<(), PlanRefusal> {
     // SAFETY: each pointer comes with the length of the slice it was taken
     // from, and the library only reads them, during the call.
-    let result = unsafe {
+    let code = unsafe {
         ffi::check_plan(
             sizes.as_ptr(),
             sizes.len(),
@@ -175,15 +163,9 @@ pub fn check_plan_rows(
             k,
         )
     };
-    if result == 0 {
-        return Ok(());
-    }
-    match PlanFault::from_number((result >> 32) as u32) {
-        Some(fault) => Err(PlanRefusal {
-            fault,
-            place: result as u32 as usize,
-        }),
-        None => panic!("check_plan returned {result:#x}, which its interface excludes"),
+    match results::of_plan(code) {
+        Some(result) => result,
+        None => panic!("check_plan returned {code:#x}, which its interface excludes"),
     }
 }
 
