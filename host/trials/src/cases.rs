@@ -1,15 +1,23 @@
 //! The specification's own cases by name, their answers written out from the
 //! paper. Those it marks ● are proved elsewhere and tried here as well.
 
-use crate::compare::{by_library, by_paper, plan_by_library, verdict};
+use crate::compare::{by_library, by_paper, plan_by_library, verdict, Outcome};
 use crate::families::{self, Family};
-use crate::paper::{size_class, Refusal, SizeClass, Totals};
+use crate::paper::{size_class, SizeClass, Totals};
 use crate::plans::PlanTrial;
-use crate::streams::{count, opening, shelve, StreamTrial};
+use crate::streams::StreamTrial;
+use crate::wire::{self, refused_word as r, Command, Refusal};
 
-/// The answer word of a refused item.
-const fn r(number: u16) -> u16 {
-    32_768 + number
+fn opening(capacity: u32, stock: u16, m: u8) -> Vec<u8> {
+    wire::opening(capacity, stock, m).bytes()
+}
+
+fn shelve(size: u32) -> Vec<u8> {
+    Command::Shelve(size).bytes()
+}
+
+fn count() -> Vec<u8> {
+    Command::Count.bytes()
 }
 
 /// Collects what went wrong, by the name of the case.
@@ -43,8 +51,7 @@ impl Cases {
         };
         let (items, opened) = totals;
         for (side, outcome) in [("paper", by_paper(&trial)), ("library", by_library(&trial))] {
-            let good =
-                outcome.result == Some(Ok(Totals { items, opened })) && outcome.row() == words;
+            let good = outcome.totals() == Some(Totals { items, opened }) && outcome.row() == words;
             self.check(name, good, || format!("{side}: {outcome}"));
         }
         // Every word of the row and around it.
@@ -68,15 +75,10 @@ impl Cases {
             lent,
             fill: 2,
         };
-        let untouched = by_paper(&StreamTrial {
-            stream: Vec::new(),
-            ..trial.clone()
-        });
         let at = offset;
+        let expected = Outcome::of(&trial, Err(Refusal { number, at }), &[]);
         for (side, outcome) in [("paper", by_paper(&trial)), ("library", by_library(&trial))] {
-            let good = outcome.result == Some(Err(Refusal { number, at }))
-                && outcome.row() == untouched.row();
-            self.check(name, good, || format!("{side}: {outcome}"));
+            self.check(name, outcome == expected, || format!("{side}: {outcome}"));
         }
     }
 
@@ -592,7 +594,7 @@ fn family(cases: &mut Cases, name: &str, m: u8, family: Family) {
         opened: opened as usize,
     };
     for (side, outcome) in [("paper", by_paper(&trial)), ("library", by_library(&trial))] {
-        let good = outcome.result == Some(Ok(totals));
+        let good = outcome.totals() == Some(totals);
         cases.check(name, good, || format!("{side}: {outcome}"));
     }
     let entries: Vec<(u32, u32)> = sizes.iter().copied().zip(bins).collect();

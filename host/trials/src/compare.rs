@@ -5,11 +5,11 @@ use std::panic::{self, AssertUnwindSafe};
 use std::sync::atomic::{AtomicBool, Ordering};
 use std::time::{Duration, Instant};
 
-use crate::paper::{Refusal, Totals};
+use crate::paper::{self, Totals};
 use crate::plans::PlanTrial;
 use crate::rng::Rng;
 use crate::streams::StreamTrial;
-use crate::{paper, streams};
+use crate::wire::{self, opening, Command, Opening, Part, Refusal, LEAST_M};
 
 /// Words before and after the lent row that no call may touch.
 const GUARD: usize = 8;
@@ -40,11 +40,25 @@ fn guarded<T>(call: impl FnOnce() -> T) -> Option<T> {
 /// around it.
 #[derive(Clone, PartialEq, Eq)]
 pub struct Outcome {
-    pub result: Option<Result<Totals, Refusal>>,
+    result: Option<Result<Totals, Refusal>>,
     words: Vec<u16>,
 }
 
 impl Outcome {
+    /// What a stream comes to with this result, these words of the row written
+    /// and all others untouched.
+    pub fn of(trial: &StreamTrial, result: Result<Totals, Refusal>, written: &[u16]) -> Self {
+        outcome(trial, |row| {
+            row[..written.len()].copy_from_slice(written);
+            Some(result)
+        })
+    }
+
+    /// What the stream returned, if it was accepted.
+    pub fn totals(&self) -> Option<Totals> {
+        self.result?.ok()
+    }
+
     /// The lent row.
     pub fn row(&self) -> &[u16] {
         &self.words[GUARD..self.words.len() - GUARD]
@@ -92,19 +106,12 @@ fn seen(refusal: shelf::PlanRefusal) -> Refusal {
 /// The library's verdict on a plan. A plan with rows of one length is checked
 /// as entries too, and both calls must agree.
 pub fn plan_by_library(trial: &PlanTrial) -> Option<Result<(), Refusal>> {
-    let PlanTrial {
-        sizes,
-        bins,
-        items,
-        capacity,
-        k,
-        ..
-    } = trial;
-    let rows = guarded(|| shelf::check_plan_rows(sizes, bins, items, *capacity, *k))?;
-    if sizes.len() == bins.len() {
+    let (items, capacity, k) = (&trial.items, trial.capacity, trial.k);
+    let rows = guarded(|| shelf::check_plan_rows(&trial.sizes, &trial.bins, items, capacity, k))?;
+    if trial.sizes.len() == trial.bins.len() {
         let entry = |(size, bin)| shelf::Entry { size, bin };
         let entries: Vec<_> = trial.entries().into_iter().map(entry).collect();
-        if guarded(|| shelf::check_plan(&entries, items, *capacity, *k))? != rows {
+        if guarded(|| shelf::check_plan(&entries, items, capacity, k))? != rows {
             return None;
         }
     }
@@ -145,90 +152,69 @@ fn lower(n: u32) -> impl Iterator<Item = u32> {
         .filter(move |&lower| lower < n)
 }
 
-/// Splits a stream into its commands, taking what is faulty as it comes.
-fn commands(mut stream: &[u8]) -> Vec<&[u8]> {
-    let mut commands = Vec::new();
-    while let Some(&byte) = stream.first() {
-        let len = match byte {
-            0x01 => 8,
-            0x02 => 5,
-            _ => 1,
-        };
-        let (command, rest) = stream.split_at(len.min(stream.len()));
-        commands.push(command);
-        stream = rest;
+/// The part with one of its numbers lowered.
+fn lowered(part: Part) -> Vec<Part> {
+    match part {
+        Part::Opening(Opening { capacity, stock, m }) => {
+            let capacities = lower(capacity).map(|n| opening(n, stock, m));
+            let stocks = lower(stock.into()).map(|n| opening(capacity, n as u16, m));
+            let ms = (LEAST_M..m).map(|n| opening(capacity, stock, n));
+            let openings = capacities.chain(stocks).chain(ms);
+            openings.map(Part::Opening).collect()
+        }
+        Part::Command(Command::Shelve(size)) => {
+            let commands = lower(size).map(Command::Shelve);
+            commands.map(Part::Command).collect()
+        }
+        _ => Vec::new(),
     }
-    commands
 }
 
-/// The stream with capacity and sizes lowered alike, which keeps most fits.
-fn scaled(parts: &[&[u8]]) -> impl Iterator<Item = Vec<u8>> {
-    let parts: Vec<Vec<u8>> = parts.iter().map(|part| part.to_vec()).collect();
-    [100, 10, 2].into_iter().filter_map(move |by| {
-        let mut parts = parts.clone();
-        for part in parts.iter_mut().filter(|part| part.len() >= 5) {
-            let number = u32::from_be_bytes([part[1], part[2], part[3], part[4]]) / by;
-            if number == 0 {
-                return None;
+/// The stream with capacity and sizes divided alike, which keeps most fits.
+fn scaled<'a>(parts: &[Part<'a>], by: u32) -> Option<Vec<Part<'a>>> {
+    let less = |n: u32| Some(n / by).filter(|&n| n > 0);
+    let scaled = parts.iter().map(|&part| {
+        Some(match part {
+            Part::Opening(Opening { capacity, stock, m }) => {
+                Part::Opening(opening(less(capacity)?, stock, m))
             }
-            part[1..5].copy_from_slice(&number.to_be_bytes());
-        }
-        Some(parts.concat())
-    })
+            Part::Command(Command::Shelve(size)) => Part::Command(Command::Shelve(less(size)?)),
+            other => other,
+        })
+    });
+    scaled.collect()
+}
+
+fn parts(trial: &StreamTrial) -> Vec<Part<'_>> {
+    wire::parts(&trial.stream).map(|(_, part)| part).collect()
 }
 
 fn smaller_streams(trial: &StreamTrial) -> Box<dyn Iterator<Item = StreamTrial> + '_> {
-    let with = |stream: Vec<u8>, lent: usize| StreamTrial {
-        stream,
+    let with = |parts: &[Part], lent: usize| StreamTrial {
+        stream: parts.iter().flat_map(Part::bytes).collect(),
         lent,
         ..trial.clone()
     };
-    let parts = commands(&trial.stream);
-    let replaced = {
-        let parts = parts.clone();
-        move |i: usize, part: &[u8]| {
-            let mut parts = parts.clone();
+    let len = parts(trial).len();
+    let dropped = blocks(len).flat_map(move |block| {
+        let mut kept = parts(trial);
+        let gone = kept.drain(block).len();
+        // A shorter row keeps its distance from the number of commands.
+        [trial.lent.saturating_sub(gone), trial.lent].map(|lent| with(&kept, lent))
+    });
+    let scales = [100, 10, 2].into_iter();
+    let scaled = scales.filter_map(move |by| Some(with(&scaled(&parts(trial), by)?, trial.lent)));
+    let shorter_rows = lower(trial.lent as u32).map(move |n| with(&parts(trial), n as usize));
+    let lower_numbers = (0..len).flat_map(move |i| {
+        let tries = lowered(parts(trial)[i]).into_iter();
+        tries.map(move |part| {
+            let mut parts = parts(trial);
             parts[i] = part;
-            parts.concat()
-        }
-    };
-
-    let dropped = blocks(parts.len()).flat_map({
-        let parts = parts.clone();
-        move |block| {
-            let mut kept = parts.clone();
-            let gone = kept.drain(block).len();
-            let stream = kept.concat();
-            // A shorter row keeps its distance from the number of commands.
-            let lents = [trial.lent.saturating_sub(gone), trial.lent];
-            lents.map(|lent| with(stream.clone(), lent))
-        }
+            with(&parts, trial.lent)
+        })
     });
-    let scaled = scaled(&parts).map(move |stream| with(stream, trial.lent));
-    let shorter_rows =
-        lower(trial.lent as u32).map(move |n| with(trial.stream.clone(), n as usize));
-    let lower_sizes = (0..parts.len()).flat_map(move |i| {
-        let part = parts[i];
-        let mut tries: Vec<Vec<u8>> = Vec::new();
-        match *part {
-            [0x02, a, b, c, d] => {
-                tries.extend(lower(u32::from_be_bytes([a, b, c, d])).map(streams::shelve));
-            }
-            [0x01, a, b, c, d, e, f, m] => {
-                let capacity = u32::from_be_bytes([a, b, c, d]);
-                let stock = u16::from_be_bytes([e, f]);
-                tries.extend(lower(capacity).map(|n| streams::opening(n, stock, m)));
-                tries.extend(lower(stock.into()).map(|n| streams::opening(capacity, n as u16, m)));
-                tries.extend((6..m).map(|n| streams::opening(capacity, stock, n)));
-            }
-            _ => {}
-        }
-        let replaced = replaced.clone();
-        tries
-            .into_iter()
-            .map(move |part| with(replaced(i, &part), trial.lent))
-    });
-    Box::new(dropped.chain(scaled).chain(shorter_rows).chain(lower_sizes))
+    let shorter = dropped.chain(scaled).chain(shorter_rows);
+    Box::new(shorter.chain(lower_numbers))
 }
 
 fn smaller_plans(trial: &PlanTrial) -> Box<dyn Iterator<Item = PlanTrial> + '_> {
@@ -275,7 +261,10 @@ fn smaller_plans(trial: &PlanTrial) -> Box<dyn Iterator<Item = PlanTrial> + '_> 
 pub fn show_stream(trial: StreamTrial, fails: impl Fn(&StreamTrial) -> bool) -> String {
     let trial = shrink(trial, smaller_streams, fails);
     let (paper, library) = (by_paper(&trial), by_library(&trial));
-    let hex: Vec<String> = commands(&trial.stream).into_iter().map(hex).collect();
+    let hex: Vec<String> = parts(&trial)
+        .iter()
+        .map(|part| hex(&part.bytes()))
+        .collect();
     let differing = (0..paper.words.len()).find(|&i| paper.words[i] != library.words[i]);
     let differing = match differing {
         None => "no word differs".to_string(),
@@ -324,9 +313,9 @@ fn hex(bytes: &[u8]) -> String {
 }
 
 fn word(word: u16) -> String {
-    match word.checked_sub(32_768) {
-        Some(number) => format!("32768+{number}"),
-        None => word.to_string(),
+    match wire::answer(word) {
+        Ok(figure) => figure.to_string(),
+        Err(number) => format!("{}+{number}", wire::refused_word(0)),
     }
 }
 
@@ -338,7 +327,7 @@ impl fmt::Display for Outcome {
             Some(Err(Refusal { number, at })) => write!(f, "refused {number} at offset {at}")?,
         }
         // The answers; an untouched row says nothing.
-        if matches!(self.result, Some(Ok(_))) {
+        if self.totals().is_some() {
             let words: Vec<String> = self.row().iter().take(40).map(|&w| word(w)).collect();
             let more = if self.row().len() > 40 { " ..." } else { "" };
             write!(f, "; row {}{more}", words.join(" "))?;

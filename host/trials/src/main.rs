@@ -12,15 +12,17 @@ mod paper;
 mod plans;
 mod rng;
 mod streams;
+mod wire;
 
 use std::process::ExitCode;
 use std::time::{Instant, SystemTime, UNIX_EPOCH};
 
 use compare::{by_library, by_paper, plan_by_library, show_plan, show_stream, Outcome};
 use fewest::{first_fit_decreasing, Fewest};
-use paper::Totals;
+use plans::PlanTrial;
 use rng::Rng;
 use streams::StreamTrial;
+use wire::Stream;
 
 const USAGE: &str = "usage: trials [--streams N] [--plans N] [--seed S]";
 
@@ -93,13 +95,8 @@ fn run(streams: u64, plans: u64, seed: u64) -> Result<(), String> {
     let mut passed = 0;
     for index in 0..plans {
         let trial = plans::random(&mut Rng::of_trial(seed, 2 * index + 1));
-        let differs = |trial: &plans::PlanTrial| plan_by_library(trial) != Some(trial.by_paper());
-        if differs(&trial) {
-            let kind = trial.kind;
-            let shown = show_plan(trial, differs);
-            return Err(format!("plan trial {index}, {kind}\n{shown}"));
-        }
-        passed += u64::from(trial.by_paper().is_ok());
+        let passes = try_plan(trial).map_err(|what| format!("plan trial {index}, {what}"))?;
+        passed += u64::from(passes);
     }
     println!("plans: {plans}, of these {passed} passed");
     println!("no difference, {:.1} s", start.elapsed().as_secs_f64());
@@ -141,69 +138,55 @@ fn try_stream(trial: StreamTrial, tally: &mut Tally) -> Result<(), String> {
     if by_paper(&trial) != outcome {
         return Err(format!("{kind}\n{}", show_stream(trial, differs)));
     }
-    let Some(Ok(totals)) = outcome.result else {
-        return Ok(());
-    };
-    tally.accepted += 1;
-    let worst = worst_excess(&trial, &outcome, totals, tally);
-    if worst > 15 {
-        let breaks = |trial: &StreamTrial| {
-            let outcome = by_library(trial);
-            match outcome.result {
-                Some(Ok(totals)) => {
-                    worst_excess(trial, &outcome, totals, &mut Tally::default()) > 15
-                }
-                _ => false,
-            }
-        };
-        let shown = show_stream(trial, breaks);
-        return Err(format!(
-            "{kind}: 3 * opened - 5 * k reaches {worst}\n{shown}"
-        ));
+    tally.accepted += u64::from(outcome.totals().is_some());
+    match worst_excess(&trial, &outcome, tally) {
+        Some(worst) if worst > 15 => {
+            let breaks = |trial: &StreamTrial| {
+                worst_excess(trial, &by_library(trial), &mut Tally::default()) > Some(15)
+            };
+            let shown = show_stream(trial, breaks);
+            Err(format!(
+                "{kind}: 3 * opened - 5 * k reaches {worst}\n{shown}"
+            ))
+        }
+        _ => Ok(()),
     }
-    Ok(())
 }
 
-/// The largest `3 * opened - 5 * k`, by the library's own answers: after every
-/// command with the fewest bins k if the list is short, else at the end with
-/// the k of first-fit decreasing.
-fn worst_excess(trial: &StreamTrial, outcome: &Outcome, totals: Totals, tally: &mut Tally) -> i64 {
-    let capacity = u32::from_be_bytes(trial.stream[1..5].try_into().expect("an opening"));
-    let sizes = accepted_sizes(&trial.stream, outcome.row());
+/// The largest `3 * opened - 5 * k` of an accepted stream, by the library's own
+/// answers: after every command with the fewest bins k if the list is short,
+/// else at the end with the k of first-fit decreasing.
+fn worst_excess(trial: &StreamTrial, outcome: &Outcome, tally: &mut Tally) -> Option<i64> {
+    let totals = outcome.totals()?;
+    let stream = Stream::read(&trial.stream, trial.lent).ok()?;
+    let capacity = stream.opening.capacity;
+    let placed = stream.placed(outcome.row());
     let excess = |opened: usize, k: usize| 3 * opened as i64 - 5 * k as i64;
     if totals.items > SHORT {
-        let items: Vec<u32> = sizes.iter().map(|&(size, _)| size).collect();
+        let items: Vec<u32> = placed.iter().map(|&(size, _)| size).collect();
         let (_, k) = first_fit_decreasing(&items, capacity);
-        return excess(totals.opened, k as usize);
+        return Some(excess(totals.opened, k as usize));
     }
     let mut fewest = Fewest::new(capacity.into());
     let mut opened = 0;
     let mut worst = 0;
-    for (size, bin) in sizes {
+    for (size, bin) in placed {
         fewest.add(size.into());
-        opened = opened.max(bin);
+        opened = opened.max(bin as usize);
         worst = worst.max(excess(opened, fewest.bins()));
         tally.prefixes += 1;
     }
     tally.worst = tally.worst.max(worst);
-    worst
+    Some(worst)
 }
 
-/// The accepted items of an accepted stream, each with its bin.
-fn accepted_sizes(stream: &[u8], row: &[u16]) -> Vec<(u32, usize)> {
-    let mut sizes = Vec::new();
-    let mut rest = &stream[8..];
-    for &word in row {
-        match rest {
-            [0x02, a, b, c, d, after @ ..] => {
-                if word < 32_768 {
-                    sizes.push((u32::from_be_bytes([*a, *b, *c, *d]), word.into()));
-                }
-                rest = after;
-            }
-            [_, after @ ..] => rest = after,
-            [] => break,
-        }
+/// Whether the plan passed, by the library's own answer.
+fn try_plan(trial: PlanTrial) -> Result<bool, String> {
+    let kind = trial.kind;
+    let verdict = plan_by_library(&trial);
+    let differs = |trial: &PlanTrial| plan_by_library(trial) != Some(trial.by_paper());
+    if verdict != Some(trial.by_paper()) {
+        return Err(format!("{kind}\n{}", show_plan(trial, differs)));
     }
-    sizes
+    Ok(verdict == Some(Ok(())))
 }

@@ -1,23 +1,17 @@
 //! The specification in plain Rust, written from the paper alone and sharing
 //! nothing with the library or its wrapper: bins are lists of items, a search
-//! is a scan, a load is a sum.
+//! is a scan, a load is a sum. [`wire`](crate::wire) is its reader.
 
-/// A refused stream or plan: the number, and the offset or place.
-#[derive(Debug, Clone, Copy, PartialEq, Eq)]
-pub struct Refusal {
-    pub number: u32,
-    pub at: usize,
-}
+use crate::wire::{refuse, refused_word, Command, Opening, Refusal, Stream, MOST_CAPACITY};
+
+/// The most entries of a plan and of its items, and the largest k.
+pub const MOST_ENTRIES: usize = 4096;
 
 /// What an accepted stream returns.
 #[derive(Debug, Clone, Copy, PartialEq, Eq)]
 pub struct Totals {
     pub items: usize,
     pub opened: usize,
-}
-
-fn refuse<T>(number: u32, at: usize) -> Result<T, Refusal> {
-    Err(Refusal { number, at })
 }
 
 #[derive(Debug, Clone, Copy, PartialEq, Eq)]
@@ -45,12 +39,6 @@ struct Bin {
     items: Vec<u64>,
 }
 
-struct Opening {
-    capacity: u64,
-    stock: usize,
-    m: usize,
-}
-
 struct Packing {
     opening: Opening,
     bins: Vec<Bin>,
@@ -61,7 +49,7 @@ struct Packing {
 impl Packing {
     /// Places one item: the number of its bin, or the refusal's number.
     fn place(&mut self, size: u64) -> Result<usize, u16> {
-        let capacity = self.opening.capacity;
+        let capacity = self.opening.capacity.into();
         if size == 0 {
             return Err(8);
         }
@@ -69,7 +57,7 @@ impl Packing {
             return Err(9);
         }
         let is_b2 = size_class(size, capacity) == SizeClass::B2;
-        let beside_an_a = is_b2 && (self.b2_accepted + 1).is_multiple_of(self.opening.m);
+        let beside_an_a = is_b2 && (self.b2_accepted + 1).is_multiple_of(self.opening.m.into());
         let class = match size_class(size, capacity) {
             SizeClass::A => 1,
             SizeClass::B1 => 2,
@@ -87,7 +75,7 @@ impl Packing {
         };
         let place = match self.bins.iter().position(permitted) {
             Some(place) => place,
-            None if self.bins.len() == self.opening.stock => return Err(10),
+            None if self.bins.len() == self.opening.stock.into() => return Err(10),
             None => {
                 let items = Vec::new();
                 self.bins.push(Bin { class, items });
@@ -103,66 +91,9 @@ impl Packing {
     }
 }
 
-enum Command {
-    Shelve(u64),
-    Count,
-}
-
-/// An unsigned operand, most significant byte first.
-fn number(bytes: &[u8]) -> u64 {
-    bytes.iter().fold(0, |n, &byte| n * 256 + u64::from(byte))
-}
-
-/// Reads the opening and every command, or finds the first faulty command.
-fn read(stream: &[u8]) -> Result<(Opening, Vec<Command>), Refusal> {
-    if stream.first() != Some(&0x01) {
-        return refuse(1, 0);
-    }
-    if stream.len() < 8 {
-        return refuse(3, 0);
-    }
-    let opening = Opening {
-        capacity: number(&stream[1..5]),
-        stock: number(&stream[5..7]) as usize,
-        m: number(&stream[7..8]) as usize,
-    };
-    if !(1..=16_777_216).contains(&opening.capacity)
-        || !(1..=512).contains(&opening.stock)
-        || !(6..=9).contains(&opening.m)
-    {
-        return refuse(5, 0);
-    }
-
-    let mut commands = Vec::new();
-    let mut offset = 8;
-    while offset < stream.len() {
-        if commands.len() == 4096 {
-            return refuse(6, offset);
-        }
-        let operands = &stream[offset + 1..];
-        match stream[offset] {
-            0x01 => return refuse(4, offset),
-            0x02 if operands.len() < 4 => return refuse(3, offset),
-            0x02 => {
-                commands.push(Command::Shelve(number(&operands[..4])));
-                offset += 5;
-            }
-            0x03 => {
-                commands.push(Command::Count);
-                offset += 1;
-            }
-            _ => return refuse(2, offset),
-        }
-    }
-    Ok((opening, commands))
-}
-
 /// Shelves a stream, writing the answer words into the lent row.
 pub fn shelve(stream: &[u8], answers: &mut [u16]) -> Result<Totals, Refusal> {
-    let (opening, commands) = read(stream)?;
-    if answers.len() < commands.len() {
-        return refuse(7, stream.len());
-    }
+    let Stream { opening, commands } = Stream::read(stream, answers.len())?;
     let mut packing = Packing {
         opening,
         bins: Vec::new(),
@@ -172,9 +103,9 @@ pub fn shelve(stream: &[u8], answers: &mut [u16]) -> Result<Totals, Refusal> {
     for (word, command) in answers.iter_mut().zip(commands) {
         *word = match command {
             Command::Count => packing.bins.len() as u16,
-            Command::Shelve(size) => match packing.place(size) {
+            Command::Shelve(size) => match packing.place(size.into()) {
                 Ok(bin) => bin as u16,
-                Err(number) => 32_768 + number,
+                Err(number) => refused_word(number),
             },
         };
     }
@@ -191,10 +122,10 @@ pub fn check_plan(
     capacity: u32,
     k: u32,
 ) -> Result<(), Refusal> {
-    if capacity == 0 || capacity > 16_777_216 {
+    if capacity == 0 || capacity > MOST_CAPACITY {
         return refuse(11, 0);
     }
-    if k > 4096 || plan.len() > 4096 || items.len() > 4096 {
+    if k as usize > MOST_ENTRIES || plan.len() > MOST_ENTRIES || items.len() > MOST_ENTRIES {
         return refuse(12, 0);
     }
     if plan.len() != items.len() {

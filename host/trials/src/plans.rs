@@ -1,8 +1,14 @@
 //! Random plans: good ones of several makers, and damaged ones.
 
+use crate::families;
 use crate::fewest::first_fit_decreasing;
+use crate::paper::{self, MOST_ENTRIES};
 use crate::rng::Rng;
-use crate::{families, paper, streams};
+use crate::streams::random_m;
+use crate::wire::{opening, Refusal, Stream, MOST_CAPACITY, MOST_STOCK};
+
+/// The largest k.
+const MOST_K: u32 = MOST_ENTRIES as u32;
 
 /// A plan in two rows, and what it is checked against.
 #[derive(Clone)]
@@ -64,19 +70,12 @@ fn random_items(rng: &mut Rng, capacity: u32) -> Vec<u32> {
 /// The answers of the library to a stream, with the accepted sizes in order.
 fn own_answers(rng: &mut Rng) -> PlanTrial {
     let capacity = random_capacity(rng);
-    let stock = rng.pick(&[1, 2, 5, 20, 512]);
+    let stock = rng.pick(&[1, 2, 5, 20, MOST_STOCK]);
     let sent = random_items(rng, capacity);
-    let mut stream = streams::opening(capacity, stock, rng.between(6, 9) as u8);
-    for &size in &sent {
-        stream.extend(streams::shelve(size));
-    }
+    let stream = Stream::of_sizes(opening(capacity, stock, random_m(rng)), &sent);
     let mut words = vec![0; sent.len()];
-    let totals = shelf::shelve(&stream, &mut words).expect("a well-formed stream");
-    let placed = sent
-        .into_iter()
-        .zip(words)
-        .filter(|&(_, word)| word < 32_768);
-    let (items, bins) = placed.map(|(size, word)| (size, u32::from(word))).unzip();
+    let totals = shelf::shelve(&stream.bytes(), &mut words).expect("a well-formed stream");
+    let (items, bins) = stream.placed(&words).into_iter().unzip();
     passing("own answers", items, bins, capacity, totals.opened.into())
 }
 
@@ -104,9 +103,9 @@ fn family(rng: &mut Rng) -> PlanTrial {
 /// As many entries, bins or both as are allowed.
 fn at_the_limit(rng: &mut Rng) -> PlanTrial {
     let each = rng.between(1, 6) as u32;
-    let items = vec![1; 4096];
-    let bins = (0..4096).map(|i| i / each + 1).collect();
-    passing("at the limit", items, bins, each, 4096)
+    let items = vec![1; MOST_ENTRIES];
+    let bins = (0..MOST_K).map(|i| i / each + 1).collect();
+    passing("at the limit", items, bins, each, MOST_K)
 }
 
 /// Any bins from 1 to k: often overfull.
@@ -142,7 +141,7 @@ fn damage(rng: &mut Rng, trial: &mut PlanTrial) {
             sizes[i] = size;
             items[i] = size;
         }
-        4..=5 if whole => bins[i] = rng.pick(&[0, k.saturating_add(1), 4097, u32::MAX]),
+        4..=5 if whole => bins[i] = rng.pick(&[0, k.saturating_add(1), MOST_K + 1, u32::MAX]),
         6..=7 if whole => bins[i] = bins[j],
         8 => {
             items.pop();
@@ -171,13 +170,14 @@ fn damage(rng: &mut Rng, trial: &mut PlanTrial) {
                 k.saturating_add(7),
             ])
         }
-        13 => *k = rng.pick(&[4095, 4096, 4097, u32::MAX]),
-        14 => *capacity = rng.pick(&[0, 1, 16_777_216, 16_777_217, u32::MAX]),
+        13 => *k = rng.pick(&[MOST_K - 1, MOST_K, MOST_K + 1, u32::MAX]),
+        14 => *capacity = rng.pick(&[0, 1, MOST_CAPACITY, MOST_CAPACITY + 1, u32::MAX]),
         15 => *capacity = rng.pick(&[capacity.saturating_sub(1), *capacity / 2]),
         16 if rng.chance(20) => {
             for row in [sizes, bins, items] {
                 if rng.chance(70) {
-                    row.resize(rng.pick(&[4095, 4096, 4097, 5000]), 1);
+                    let most = MOST_ENTRIES;
+                    row.resize(rng.pick(&[most - 1, most, most + 1, 5000]), 1);
                 }
             }
         }
@@ -192,7 +192,7 @@ impl PlanTrial {
         self.sizes.iter().copied().zip(bins).collect()
     }
 
-    pub fn by_paper(&self) -> Result<(), paper::Refusal> {
+    pub fn by_paper(&self) -> Result<(), Refusal> {
         paper::check_plan(&self.entries(), &self.items, self.capacity, self.k)
     }
 }

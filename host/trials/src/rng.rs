@@ -32,6 +32,12 @@ impl Rng {
         self.word() % 100 < percent
     }
 
+    pub fn shuffle<T>(&mut self, row: &mut [T]) {
+        for i in (1..row.len()).rev() {
+            row.swap(i, self.place(i + 1));
+        }
+    }
+
     pub fn pick<T: Copy>(&mut self, row: &[T]) -> T {
         row[self.place(row.len())]
     }

@@ -2,6 +2,9 @@
 
 use crate::families::{self, Family};
 use crate::rng::Rng;
+use crate::wire::Command::{Count, Shelve};
+use crate::wire::{opening, Opening, Stream};
+use crate::wire::{LEAST_M, MOST_CAPACITY, MOST_COMMANDS, MOST_M, MOST_STOCK};
 
 /// A stream and the row lent with it.
 #[derive(Clone)]
@@ -14,60 +17,39 @@ pub struct StreamTrial {
     pub fill: u64,
 }
 
-#[derive(Clone, Copy)]
-struct Opening {
-    capacity: u32,
-    stock: u16,
-    m: u8,
-}
-
-pub fn opening(capacity: u32, stock: u16, m: u8) -> Vec<u8> {
-    let mut bytes = vec![0x01];
-    bytes.extend(capacity.to_be_bytes());
-    bytes.extend(stock.to_be_bytes());
-    bytes.push(m);
-    bytes
-}
-
-pub fn shelve(size: u32) -> Vec<u8> {
-    let mut bytes = vec![0x02];
-    bytes.extend(size.to_be_bytes());
-    bytes
-}
-
-pub fn count() -> Vec<u8> {
-    vec![0x03]
-}
-
 pub fn random(rng: &mut Rng) -> StreamTrial {
-    let (kind, commands) = match rng.between(0, 99) {
-        0..=29 => ("short list", short_list(rng)),
-        30..=49 => ("list", list(rng, 80)),
-        50..=57 => ("B2 with a small stock", b2_run(rng)),
-        58..=64 => ("family", family(rng)),
-        65..=66 => ("4,096 commands", long(rng)),
-        67..=71 => ("noise", noise(rng)),
+    let (kind, pieces) = match rng.between(0, 99) {
+        0..=29 => ("short list", short_list(rng).pieces()),
+        30..=49 => ("list", list(rng, 80).pieces()),
+        50..=57 => ("B2 with a small stock", b2_run(rng).pieces()),
+        58..=64 => ("family", family(rng).pieces()),
+        65..=66 => ("4,096 commands", long(rng).pieces()),
+        67..=71 => ("noise", vec![noise(rng)]),
         72..=75 => ("opening", damaged_opening(rng)),
         76..=78 => ("at the limit of commands", around_the_limit(rng)),
         _ => ("damaged", damaged(rng)),
     };
-    let after = commands.len().saturating_sub(1);
+    let after = pieces.len().saturating_sub(1);
     let lent = match rng.between(0, 19) {
         0..=7 => after,
         8..=10 => after + rng.place(9),
         11..=12 => after.saturating_sub(1),
         13 => 0,
         14 => rng.place(after + 1),
-        15..=16 => 4096,
-        17 => 4095,
-        _ => 4097 + rng.place(100),
+        15..=16 => MOST_COMMANDS,
+        17 => MOST_COMMANDS - 1,
+        _ => MOST_COMMANDS + 1 + rng.place(100),
     };
     StreamTrial {
         kind,
-        stream: commands.concat(),
+        stream: pieces.concat(),
         lent,
         fill: rng.word(),
     }
+}
+
+pub fn random_m(rng: &mut Rng) -> u8 {
+    rng.between(LEAST_M.into(), MOST_M.into()) as u8
 }
 
 fn random_opening(rng: &mut Rng) -> Opening {
@@ -75,25 +57,22 @@ fn random_opening(rng: &mut Rng) -> Opening {
         0..=2 => rng.between(1, 30),
         3..=4 => rng.between(1, 200),
         5 => 60 * rng.between(1, 50),
-        6 => rng.pick(&[16_777_214, 16_777_215, 16_777_216]),
+        6 => u64::from(MOST_CAPACITY) - rng.pick(&[2, 1, 0]),
         _ => {
             let bits = rng.between(1, 24);
             rng.between(1, 1 << bits)
         }
     };
+    let most = u64::from(MOST_STOCK);
     let stock = match rng.between(0, 7) {
         0 => rng.pick(&[1, 2]),
         1..=2 => rng.between(1, 20),
-        3 => rng.pick(&[511, 512]),
-        4 => rng.between(1, 512),
+        3 => rng.pick(&[most - 1, most]),
+        4 => rng.between(1, most),
         5 => 1 << rng.between(0, 9),
-        _ => 512,
+        _ => most,
     };
-    Opening {
-        capacity: capacity as u32,
-        stock: stock as u16,
-        m: rng.between(6, 9) as u8,
-    }
+    opening(capacity as u32, stock as u16, random_m(rng))
 }
 
 /// How the sizes of one stream are chosen.
@@ -159,71 +138,61 @@ fn bad_size(rng: &mut Rng, capacity: u32) -> u32 {
     }
 }
 
-fn random_command(rng: &mut Rng, sizes: Sizes, capacity: u32) -> Vec<u8> {
-    match rng.between(0, 99) {
-        0..=5 => count(),
-        6..=10 => shelve(bad_size(rng, capacity)),
-        _ => shelve(random_size(rng, sizes, capacity)),
-    }
+/// So many commands: items, good and bad, and counts.
+fn mixed(rng: &mut Rng, opening: Opening, sizes: Sizes, len: usize) -> Stream {
+    let mut command = || match rng.between(0, 99) {
+        0..=5 => Count,
+        6..=10 => Shelve(bad_size(rng, opening.capacity)),
+        _ => Shelve(random_size(rng, sizes, opening.capacity)),
+    };
+    let commands = (0..len).map(|_| command()).collect();
+    Stream { opening, commands }
 }
 
-fn opened_by(opening_: Opening) -> Vec<Vec<u8>> {
-    let Opening { capacity, stock, m } = opening_;
-    vec![opening(capacity, stock, m)]
-}
-
-fn list(rng: &mut Rng, longest: u64) -> Vec<Vec<u8>> {
+fn list(rng: &mut Rng, longest: u64) -> Stream {
     let opening = random_opening(rng);
     let sizes = random_sizes(rng);
-    let mut commands = opened_by(opening);
-    for _ in 0..rng.between(0, longest) {
-        commands.push(random_command(rng, sizes, opening.capacity));
-    }
-    commands
+    let len = rng.between(0, longest) as usize;
+    mixed(rng, opening, sizes, len)
 }
 
 /// Short enough to find the fewest bins; often a list that fills some bins and
 /// comes in the order that serves the method worst, smallest first.
-fn short_list(rng: &mut Rng) -> Vec<Vec<u8>> {
+fn short_list(rng: &mut Rng) -> Stream {
     if rng.chance(50) {
         return list(rng, 13);
     }
     let opening = random_opening(rng);
-    let capacity = u64::from(opening.capacity);
+    let capacity = opening.capacity;
     let mut sizes = Vec::new();
     for _ in 0..rng.between(1, 4) {
         let a = capacity / 2 + 1;
-        sizes.push(a);
         let rest = capacity - a.min(capacity);
         let part = match rng.between(0, 3) {
             0 => 2 * capacity / 5 + 1,
             1 => capacity / 3 + 1,
             2 => rest / 2,
-            _ => rng.between(0, rest),
+            _ => rng.between(0, rest.into()) as u32,
         };
-        sizes.extend([part.min(rest), rest.saturating_sub(part)]);
+        sizes.extend([a, part.min(rest), rest.saturating_sub(part)]);
     }
     if rng.chance(60) {
         sizes.sort_unstable();
     } else {
-        for i in (1..sizes.len()).rev() {
-            sizes.swap(i, rng.place(i + 1));
-        }
+        rng.shuffle(&mut sizes);
     }
-    let mut commands = opened_by(opening);
-    commands.extend(sizes.into_iter().map(|size| shelve(size as u32)));
-    commands
+    Stream::of_sizes(opening, &sizes)
 }
 
 /// B2 items and a few A over a stock that runs out, so that some m-th B2 find
 /// an A, some open a bin, and some are refused and come again.
-fn b2_run(rng: &mut Rng) -> Vec<Vec<u8>> {
+fn b2_run(rng: &mut Rng) -> Stream {
     let mut opening = random_opening(rng);
     opening.capacity = opening.capacity.max(12);
     opening.stock = rng.between(1, 12) as u16;
     let c = u64::from(opening.capacity);
     let b2 = (c / 3 + 1, (2 * c / 5).max(c / 3 + 1));
-    let mut commands = opened_by(opening);
+    let mut commands = Vec::new();
     for _ in 0..rng.between(6, 70) {
         let size = match rng.between(0, 19) {
             0..=13 => rng.between(b2.0, b2.1),
@@ -233,16 +202,16 @@ fn b2_run(rng: &mut Rng) -> Vec<Vec<u8>> {
             18 => rng.between(1, c / 3),
             _ => bad_size(rng, opening.capacity).into(),
         };
-        commands.push(shelve(size as u32));
+        commands.push(Shelve(size as u32));
         if rng.chance(4) {
-            commands.push(count());
+            commands.push(Count);
         }
     }
-    commands
+    Stream { opening, commands }
 }
 
 /// One of the families, as it is or nearly so.
-fn family(rng: &mut Rng) -> Vec<Vec<u8>> {
+fn family(rng: &mut Rng) -> Stream {
     let Family {
         capacity,
         mut sizes,
@@ -267,41 +236,40 @@ fn family(rng: &mut Rng) -> Vec<Vec<u8>> {
         }
         _ => {}
     }
-    let stock = rng.pick(&[512, 512, opened, opened - 1]);
-    let mut commands = vec![opening(capacity, stock as u16, rng.between(6, 9) as u8)];
+    let most = MOST_STOCK.into();
+    let stock = rng.pick(&[most, most, opened, opened - 1]) as u16;
+    let opening = opening(capacity, stock, random_m(rng));
+    let mut commands = Vec::new();
     for size in sizes {
         if rng.chance(3) {
-            commands.push(count());
+            commands.push(Count);
         }
         if rng.chance(3) {
-            commands.push(shelve(bad_size(rng, capacity)));
+            commands.push(Shelve(bad_size(rng, capacity)));
         }
-        commands.push(shelve(size));
+        commands.push(Shelve(size));
     }
-    commands
+    Stream { opening, commands }
 }
 
 /// Exactly as many commands as are allowed, sometimes with every item accepted.
-fn long(rng: &mut Rng) -> Vec<Vec<u8>> {
+fn long(rng: &mut Rng) -> Stream {
     let mut opening = random_opening(rng);
     if rng.chance(30) {
         opening.capacity = opening.capacity.max(100);
-        opening.stock = 512;
+        opening.stock = MOST_STOCK;
         let most = u64::from(opening.capacity) / 10;
-        let items = (0..4096).map(|_| shelve(rng.between(1, most) as u32));
-        return opened_by(opening).into_iter().chain(items).collect();
+        let size = |_| rng.between(1, most) as u32;
+        let sizes: Vec<u32> = (0..MOST_COMMANDS).map(size).collect();
+        return Stream::of_sizes(opening, &sizes);
     }
     let sizes = random_sizes(rng);
-    let mut commands = opened_by(opening);
-    while commands.len() < 1 + 4096 {
-        commands.push(random_command(rng, sizes, opening.capacity));
-    }
-    commands
+    mixed(rng, opening, sizes, MOST_COMMANDS)
 }
 
-fn noise(rng: &mut Rng) -> Vec<Vec<u8>> {
+fn noise(rng: &mut Rng) -> Vec<u8> {
     let mut bytes = if rng.chance(50) {
-        opened_by(random_opening(rng)).concat()
+        random_opening(rng).bytes()
     } else {
         Vec::new()
     };
@@ -312,61 +280,54 @@ fn noise(rng: &mut Rng) -> Vec<Vec<u8>> {
             rng.word() as u8
         });
     }
-    vec![bytes]
+    bytes
 }
 
 /// An opening operand outside its limits, or at them.
 fn odd_opening(rng: &mut Rng) -> Vec<u8> {
-    let Opening {
-        mut capacity,
-        mut stock,
-        mut m,
-    } = random_opening(rng);
+    let mut opening = random_opening(rng);
     for _ in 0..rng.between(1, 2) {
         match rng.between(0, 2) {
-            0 => capacity = rng.pick(&[0, 1, 16_777_216, 16_777_217, u32::MAX]),
-            1 => stock = rng.pick(&[0, 1, 512, 513, u16::MAX]),
-            _ => m = rng.pick(&[0, 5, 6, 9, 10, 255]),
+            0 => opening.capacity = rng.pick(&[0, 1, MOST_CAPACITY, MOST_CAPACITY + 1, u32::MAX]),
+            1 => opening.stock = rng.pick(&[0, 1, MOST_STOCK, MOST_STOCK + 1, u16::MAX]),
+            _ => opening.m = rng.pick(&[0, LEAST_M - 1, LEAST_M, MOST_M, MOST_M + 1, u8::MAX]),
         }
     }
-    opening(capacity, stock, m)
+    opening.bytes()
 }
 
 fn damaged_opening(rng: &mut Rng) -> Vec<Vec<u8>> {
     let mut bytes = odd_opening(rng);
     match rng.between(0, 3) {
-        0 => bytes.truncate(rng.place(8)),
+        0 => bytes.truncate(rng.place(bytes.len())),
         1 => bytes[0] = rng.pick(&[0, 2, 3, 4, 0x11, 255]),
         _ => {}
     }
-    let mut commands = vec![bytes];
+    let mut pieces = vec![bytes];
     if rng.chance(60) {
-        commands.extend(list(rng, 5).split_off(1));
-        damage(rng, &mut commands);
+        pieces.extend(list(rng, 5).pieces().split_off(1));
+        damage(rng, &mut pieces);
     }
-    commands
+    pieces
 }
 
 /// Up to two more commands than are allowed, with faults there.
 fn around_the_limit(rng: &mut Rng) -> Vec<Vec<u8>> {
-    let mut commands = list(rng, 20);
-    let after = rng.between(4094, 4098) as usize;
-    while commands.len() < 1 + after {
-        commands.push(count());
-    }
+    let near = |rng: &mut Rng| MOST_COMMANDS - 2 + rng.place(5);
+    let mut pieces = list(rng, 20).pieces();
+    pieces.resize(1 + near(rng), Count.bytes());
     for _ in 0..rng.between(0, 2) {
-        let place = rng.between(4094, 4098) as usize;
+        let place = near(rng);
         let odd = odd_command(rng);
-        if place < commands.len() {
-            commands[place] = odd;
-        } else {
-            commands.push(odd);
+        match pieces.get_mut(place) {
+            Some(piece) => *piece = odd,
+            None => pieces.push(odd),
         }
     }
     if rng.chance(10) {
-        damage(rng, &mut commands);
+        damage(rng, &mut pieces);
     }
-    commands
+    pieces
 }
 
 /// What a faulty command looks like.
@@ -374,49 +335,53 @@ fn odd_command(rng: &mut Rng) -> Vec<u8> {
     match rng.between(0, 5) {
         0..=1 => vec![rng.pick(&[0, 4, 5, 6, 7, 0x11, 0x80, 255])],
         2 => {
-            let mut bytes = shelve(rng.word() as u32);
-            bytes.truncate(rng.between(1, 4) as usize);
-            bytes
+            let bytes = Shelve(rng.word() as u32).bytes();
+            cut_short(rng, bytes)
         }
         3 => odd_opening(rng),
-        4 => opened_by(random_opening(rng)).concat(),
+        4 => random_opening(rng).bytes(),
         _ => {
-            let mut bytes = odd_opening(rng);
-            bytes.truncate(rng.between(1, 7) as usize);
-            bytes
+            let bytes = odd_opening(rng);
+            cut_short(rng, bytes)
         }
     }
 }
 
-fn damage(rng: &mut Rng, commands: &mut Vec<Vec<u8>>) {
+/// The command byte, and some of its operands' bytes.
+fn cut_short(rng: &mut Rng, mut bytes: Vec<u8>) -> Vec<u8> {
+    bytes.truncate(1 + rng.place(bytes.len() - 1));
+    bytes
+}
+
+fn damage(rng: &mut Rng, pieces: &mut Vec<Vec<u8>>) {
     for _ in 0..rng.between(1, 3) {
         match rng.between(0, 9) {
             0..=2 => {
-                let place = rng.between(1, commands.len() as u64) as usize;
+                let place = rng.between(1, pieces.len() as u64) as usize;
                 let odd = odd_command(rng);
-                commands.insert(place, odd);
+                pieces.insert(place, odd);
             }
             3 => {
-                let place = rng.place(commands.len());
-                if let Some(byte) = commands[place].first_mut() {
+                let place = rng.place(pieces.len());
+                if let Some(byte) = pieces[place].first_mut() {
                     *byte = rng.pick(&[0, 1, 2, 3, 4, 255]);
                 }
             }
-            4..=5 => commands.push(odd_command(rng)),
-            6 => commands[0] = odd_opening(rng),
+            4..=5 => pieces.push(odd_command(rng)),
+            6 => pieces[0] = odd_opening(rng),
             // The stream's end cuts its last command short.
             _ => {
-                let place = rng.place(commands.len());
-                commands.truncate(place + 1);
-                let keep = rng.place(commands[place].len() + 1);
-                commands[place].truncate(keep);
+                let place = rng.place(pieces.len());
+                pieces.truncate(place + 1);
+                let keep = rng.place(pieces[place].len() + 1);
+                pieces[place].truncate(keep);
             }
         }
     }
 }
 
 fn damaged(rng: &mut Rng) -> Vec<Vec<u8>> {
-    let mut commands = list(rng, 12);
-    damage(rng, &mut commands);
-    commands
+    let mut pieces = list(rng, 12).pieces();
+    damage(rng, &mut pieces);
+    pieces
 }
