@@ -6,19 +6,11 @@ use crate::families::{self, Family};
 use crate::paper::{size_class, SizeClass, Totals};
 use crate::plans::PlanTrial;
 use crate::streams::StreamTrial;
-use crate::wire::{self, refused_word as r, Command, Refusal};
+use crate::wire::Command::{self, Count, Shelve};
+use crate::wire::{opening, refuse, refused_word as r, Opening, Refusal, Stream};
 
-fn opening(capacity: u32, stock: u16, m: u8) -> Vec<u8> {
-    wire::opening(capacity, stock, m).bytes()
-}
-
-fn shelve(size: u32) -> Vec<u8> {
-    Command::Shelve(size).bytes()
-}
-
-fn count() -> Vec<u8> {
-    Command::Count.bytes()
-}
+/// The opening of the streams that are refused for another fault.
+const OPEN: Opening = opening(60, 4, 6);
 
 /// Collects what went wrong, by the name of the case.
 #[derive(Default)]
@@ -35,55 +27,41 @@ impl Cases {
         }
     }
 
-    /// A stream that is accepted with these answer words and totals.
-    fn accepted(
-        &mut self,
-        name: &str,
-        commands: &[Vec<u8>],
-        words: &[u16],
-        totals: (usize, usize),
-    ) {
-        let trial = StreamTrial {
-            kind: "case",
-            stream: commands.concat(),
-            lent: words.len(),
-            fill: 1,
-        };
-        let (items, opened) = totals;
-        for (side, outcome) in [("paper", by_paper(&trial)), ("library", by_library(&trial))] {
-            let good = outcome.totals() == Some(Totals { items, opened }) && outcome.row() == words;
-            self.check(name, good, || format!("{side}: {outcome}"));
+    /// A stream that comes to this on both sides, to the last word of the row
+    /// and around it.
+    fn both(&mut self, name: &str, trial: &StreamTrial, expected: &Outcome) {
+        for (side, outcome) in [("paper", by_paper(trial)), ("library", by_library(trial))] {
+            self.check(name, outcome == *expected, || format!("{side}: {outcome}"));
         }
-        // Every word of the row and around it.
-        let same = by_paper(&trial) == by_library(&trial);
-        self.check(name, same, || "the rows differ".to_string());
+    }
+
+    /// A stream that is accepted with these answer words and totals, the row
+    /// just long enough or longer.
+    fn accepted(&mut self, name: &str, stream: &[u8], words: &[u16], totals: (usize, usize)) {
+        let (items, opened) = totals;
+        for spare in [0, 3] {
+            let trial = case(stream.to_vec(), words.len() + spare);
+            let expected = Outcome::of(&trial, Ok(Totals { items, opened }), words);
+            self.both(name, &trial, &expected);
+        }
     }
 
     /// A list that is shelved without a refusal.
-    fn placed(&mut self, name: &str, open: (u32, u16, u8), sizes: &[u32], bins: &[u16]) {
-        let mut commands = vec![opening(open.0, open.1, open.2)];
-        commands.extend(sizes.iter().map(|&size| shelve(size)));
+    fn placed(&mut self, name: &str, capacity: u32, sizes: &[u32], bins: &[u16]) {
+        let stream = Stream::of_sizes(opening(capacity, 512, 6), sizes);
         let opened = bins.iter().max().copied().unwrap_or(0);
-        self.accepted(name, &commands, bins, (sizes.len(), opened.into()));
+        self.accepted(name, &stream.bytes(), bins, (sizes.len(), opened.into()));
     }
 
-    /// A stream that is refused as a whole; the row is untouched.
-    fn refused(&mut self, name: &str, stream: Vec<u8>, lent: usize, number: u32, offset: usize) {
-        let trial = StreamTrial {
-            kind: "case",
-            stream,
-            lent,
-            fill: 2,
-        };
-        let at = offset;
-        let expected = Outcome::of(&trial, Err(Refusal { number, at }), &[]);
-        for (side, outcome) in [("paper", by_paper(&trial)), ("library", by_library(&trial))] {
-            self.check(name, outcome == expected, || format!("{side}: {outcome}"));
-        }
+    /// A stream that is refused as a whole, at the end of `before`; the row is
+    /// untouched.
+    fn refused(&mut self, name: &str, number: u32, before: &[u8], fault: &[u8], lent: usize) {
+        let trial = case([before, fault].concat(), lent);
+        let expected = Outcome::of(&trial, refuse(number, before.len()), &[]);
+        self.both(name, &trial, &expected);
     }
 
-    fn plan(&mut self, name: &str, trial: &PlanTrial, expected: Result<(), (u32, usize)>) {
-        let expected = expected.map_err(|(number, at)| Refusal { number, at });
+    fn plan(&mut self, name: &str, trial: &PlanTrial, expected: Result<(), Refusal>) {
         let paper = trial.by_paper();
         self.check(name, paper == expected, || {
             format!("paper: {}", verdict(paper))
@@ -94,6 +72,20 @@ impl Cases {
             None => "library: outside the interface".to_string(),
         });
     }
+}
+
+fn case(stream: Vec<u8>, lent: usize) -> StreamTrial {
+    StreamTrial {
+        kind: "case",
+        stream,
+        lent,
+        fill: 1,
+    }
+}
+
+fn sent(opening: Opening, commands: &[Command]) -> Vec<u8> {
+    let commands = commands.to_vec();
+    Stream { opening, commands }.bytes()
 }
 
 fn plan(entries: &[(u32, u32)], items: &[u32], capacity: u32, k: u32) -> PlanTrial {
@@ -108,18 +100,29 @@ fn plan(entries: &[(u32, u32)], items: &[u32], capacity: u32, k: u32) -> PlanTri
     }
 }
 
+/// A plan of just these items.
+fn own_plan(entries: &[(u32, u32)], capacity: u32, k: u32) -> PlanTrial {
+    let items: Vec<u32> = entries.iter().map(|&(size, _)| size).collect();
+    plan(entries, &items, capacity, k)
+}
+
 pub fn run() -> Cases {
     let mut cases = Cases::default();
+    size_classes(&mut cases);
     worked_shelves(&mut cases);
+    theorem_1(&mut cases);
     misleading_readings(&mut cases);
-    stream_refusals(&mut cases);
+    faulty_commands(&mut cases);
+    openings(&mut cases);
+    numbers_of_commands(&mut cases);
     item_refusals(&mut cases);
-    plan_refusals(&mut cases);
+    plan_limits(&mut cases);
+    plan_entries(&mut cases);
     worst_lists(&mut cases);
     cases
 }
 
-fn worked_shelves(cases: &mut Cases) {
+fn size_classes(cases: &mut Cases) {
     use SizeClass::{A, B1, B2, X};
     let classes = [
         (20, 60, X),
@@ -133,190 +136,146 @@ fn worked_shelves(cases: &mut Cases) {
         (1, 1, A),
     ];
     for (size, capacity, class) in classes {
-        cases.check(
-            "size classes ●",
-            size_class(size, capacity) == class,
-            || format!("paper: {size} of {capacity}"),
-        );
+        let good = size_class(size, capacity) == class;
+        cases.check("size classes ●", good, || {
+            format!("paper: {size} of {capacity}")
+        });
     }
     let no_b2 = (1..=7).all(|size| size_class(size, 7) != B2);
     cases.check("capacity 7 has no B2 ●", no_b2, || "paper".to_string());
 
     // The classes as the answers show them: a size in a wrong class would join
     // another bin or open one.
-    cases.placed(
-        "size classes of capacity 60 ●",
-        (60, 512, 6),
-        &[20, 21, 24, 31, 25, 30],
-        &[1, 2, 2, 3, 4, 4],
-    );
-    cases.placed(
-        "size classes of capacity 7 ●",
-        (7, 512, 6),
-        &[2, 3, 4, 3, 2, 2, 1],
-        &[1, 2, 3, 2, 1, 1, 1],
-    );
-    cases.placed("size 1 of capacity 1 ●", (1, 512, 6), &[1, 1], &[1, 2]);
+    let name = "size classes of capacity 60 ●";
+    cases.placed(name, 60, &[20, 21, 24, 31, 25, 30], &[1, 2, 2, 3, 4, 4]);
+    let name = "size classes of capacity 7 ●";
+    cases.placed(name, 7, &[2, 3, 4, 3, 2, 2, 1], &[1, 2, 3, 2, 1, 1, 1]);
+    cases.placed("size 1 of capacity 1 ●", 1, &[1, 1], &[1, 2]);
+}
 
-    let six = [22; 6];
-    let six_in = [1, 1, 2, 2, 3, 4];
-    cases.placed(
-        "six of 22, then 38 ●",
-        (60, 512, 6),
-        &[&six[..], &[38]].concat(),
-        &[&six_in[..], &[4]].concat(),
-    );
-    cases.placed(
-        "six of 22, then 39 ●",
-        (60, 512, 6),
-        &[&six[..], &[39]].concat(),
-        &[&six_in[..], &[5]].concat(),
-    );
+fn worked_shelves(cases: &mut Cases) {
+    for (last, bin) in [(38, 4), (39, 5)] {
+        cases.placed(
+            &format!("six of 22, then {last} ●"),
+            60,
+            &[22, 22, 22, 22, 22, 22, last],
+            &[1, 1, 2, 2, 3, 4, bin],
+        );
+    }
 
-    cases.plan(
-        "30 and 30 in one cartridge ●",
-        &plan(&[(30, 1), (30, 1)], &[30, 30], 60, 1),
-        Ok(()),
-    );
-    cases.plan(
-        "30 and 31 in one cartridge ●",
-        &plan(&[(30, 1), (31, 1)], &[30, 31], 60, 1),
-        Err((15, 2)),
-    );
-    cases.plan("no masters, k 0 ●", &plan(&[], &[], 60, 0), Ok(()));
+    let fits = own_plan(&[(30, 1), (30, 1)], 60, 1);
+    cases.plan("30 and 30 in one cartridge ●", &fits, Ok(()));
+    let overfull = own_plan(&[(30, 1), (31, 1)], 60, 1);
+    cases.plan("30 and 31 in one cartridge ●", &overfull, refuse(15, 2));
+    cases.plan("no masters, k 0 ●", &own_plan(&[], 60, 0), Ok(()));
 
-    let theorem_1 = [
-        69632, 63488, 65024, 65792, 65408, 65504, 65552, 65528, 65534, 66560, 65600, 65540, 135168,
-        132096, 131328, 131136, 131088, 131076, 131073, 57344, 65537,
-    ];
-    cases.placed(
-        "Theorem 1, n = 7 ●",
-        (262_144, 512, 6),
-        &theorem_1,
-        &[
-            1, 1, 1, 2, 2, 2, 3, 3, 3, 4, 4, 4, 5, 6, 7, 8, 9, 10, 11, 1, 12,
-        ],
-    );
-    let sevens = [
-        1, 2, 3, 3, 4, 5, 5, 6, 7, 2, 4, 6, 1, 2, 3, 4, 5, 6, 7, 1, 7,
-    ];
-    let entries: Vec<(u32, u32)> = theorem_1.into_iter().zip(sevens).collect();
-    cases.plan(
-        "Theorem 1, n = 7: the plan with k 7 ●",
-        &plan(&entries, &theorem_1, 262_144, 7),
-        Ok(()),
-    );
-
-    let family = families::theorem_1_by_quarters(7);
-    let same = family.capacity == 262_144 && family.sizes == theorem_1 && family.bins == sevens;
-    cases.check("Theorem 1, n = 7, as generated", same, || {
-        format!("{:?}", family.sizes)
-    });
-
-    let mut sample = vec![opening(60, 4, 6), shelve(35)];
-    sample.extend(vec![shelve(22); 6]);
-    sample.extend([shelve(20), count(), shelve(22)]);
+    let mut sample = vec![Shelve(35)];
+    sample.extend([Shelve(22); 6]);
+    sample.extend([Shelve(20), Count, Shelve(22)]);
     cases.accepted(
         "the sample of `shelve`",
-        &sample,
+        &sent(opening(60, 4, 6), &sample),
         &[1, 2, 2, 3, 3, 4, 1, r(10), 4, 4],
         (8, 4),
     );
 }
 
+fn theorem_1(cases: &mut Cases) {
+    let sizes = [
+        69632, 63488, 65024, 65792, 65408, 65504, 65552, 65528, 65534, 66560, 65600, 65540, 135168,
+        132096, 131328, 131136, 131088, 131076, 131073, 57344, 65537,
+    ];
+    let bins = [
+        1, 1, 1, 2, 2, 2, 3, 3, 3, 4, 4, 4, 5, 6, 7, 8, 9, 10, 11, 1, 12,
+    ];
+    cases.placed("Theorem 1, n = 7 ●", 262_144, &sizes, &bins);
+
+    let sevens = [
+        1, 2, 3, 3, 4, 5, 5, 6, 7, 2, 4, 6, 1, 2, 3, 4, 5, 6, 7, 1, 7,
+    ];
+    let entries: Vec<(u32, u32)> = sizes.into_iter().zip(sevens).collect();
+    let trial = own_plan(&entries, 262_144, 7);
+    cases.plan("Theorem 1, n = 7: the plan with k 7 ●", &trial, Ok(()));
+
+    let family = families::theorem_1_by_quarters(7);
+    let same = family.capacity == 262_144 && family.sizes == sizes && family.bins == sevens;
+    cases.check("Theorem 1, n = 7, as generated", same, || {
+        format!("{:?}", family.sizes)
+    });
+}
+
 fn misleading_readings(cases: &mut Cases) {
-    cases.placed(
-        "misreading: exactly a third among the B2",
-        (60, 512, 6),
-        &[20, 21, 20, 20],
-        &[1, 2, 1, 1],
-    );
+    let name = "misreading: exactly a third among the B2";
+    cases.placed(name, 60, &[20, 21, 20, 20], &[1, 2, 1, 1]);
     // Twelve B2: the 6th and the 12th are in class 1, neither beside the other.
     let twelve = [1, 1, 2, 2, 3, 4, 3, 5, 5, 6, 6, 7];
-    cases.placed(
-        "misreading: only the B2 in class 3 count towards m",
-        (60, 512, 6),
-        &[22; 7],
-        &twelve[..7],
-    );
-    cases.placed(
-        "misreading: an m-th B2 joins a class-1 cartridge without an A",
-        (60, 512, 6),
-        &[22; 12],
-        &twelve,
-    );
+    let name = "misreading: only the B2 in class 3 count towards m";
+    cases.placed(name, 60, &[22; 7], &twelve[..7]);
+    let name = "misreading: an m-th B2 joins a class-1 cartridge without an A";
+    cases.placed(name, 60, &[22; 12], &twelve);
     cases.placed(
         "misreading: an A opens a cartridge though a lone B2 has space",
-        (60, 512, 6),
+        60,
         &[22, 22, 22, 22, 22, 22, 31, 38, 31],
         &[1, 1, 2, 2, 3, 4, 4, 5, 6],
     );
     // The 6th B2 finds the stock spent. Not counted, it is the 6th again when
     // it comes again, though cartridge 3 has space for any but a 6th.
-    let mut refused_b2 = vec![opening(60, 3, 6)];
-    refused_b2.extend(vec![shelve(22); 7]);
-    refused_b2.push(count());
+    let mut refused_b2 = vec![Shelve(22); 7];
+    refused_b2.push(Count);
     cases.accepted(
         "misreading: a refused B2 is counted",
-        &refused_b2,
+        &sent(opening(60, 3, 6), &refused_b2),
         &[1, 1, 2, 2, 3, r(10), r(10), 3],
         (5, 3),
     );
     // The same with m 9, whose 9th is refused twice; the 10th never comes.
-    let mut refused_ninth = vec![opening(60, 5, 9), shelve(40)];
-    refused_ninth.extend(vec![shelve(21); 10]);
-    refused_ninth.extend([shelve(20), count()]);
+    let mut refused_ninth = vec![Shelve(40)];
+    refused_ninth.extend([Shelve(21); 10]);
+    refused_ninth.extend([Shelve(20), Count]);
     cases.accepted(
         "a refused 9th B2 with m 9",
-        &refused_ninth,
+        &sent(opening(60, 5, 9), &refused_ninth),
         &[1, 2, 2, 3, 3, 4, 4, 5, 5, r(10), r(10), r(10), 5],
         (9, 5),
     );
 }
 
-fn stream_refusals(cases: &mut Cases) {
-    let open = opening(60, 4, 6);
-    let with = |parts: &[&[u8]]| [&open[..], &parts.concat()].concat();
-    let size = shelve(22);
+/// Refusals 1 to 4.
+fn faulty_commands(cases: &mut Cases) {
+    let (open, zeros) = (OPEN.bytes(), opening(0, 0, 0).bytes());
+    let size = Shelve(22).bytes();
+    let counted = sent(OPEN, &[Count]);
+    let shelved = sent(OPEN, &[Shelve(22)]);
 
-    cases.refused("refusal 1: empty", vec![], 4, 1, 0);
-    cases.refused("refusal 1: starts with 02", size.clone(), 4, 1, 0);
-    cases.refused(
-        "refusal 1: starts with an unknown byte",
-        vec![0xFF],
-        0,
-        1,
-        0,
-    );
-    cases.refused("refusal 2: 00", with(&[&[0x00]]), 4, 2, 8);
-    cases.refused("refusal 2: 04", with(&[&size, &[0x04]]), 4, 2, 13);
-    cases.refused("refusal 2: FF", with(&[&[0x03], &[0xFF]]), 4, 2, 9);
-    for cut in 1..5 {
-        let stream = with(&[&[0x03], &size[..cut]]);
-        cases.refused("refusal 3: a size cut short", stream, 4, 3, 9);
+    cases.refused("refusal 1: empty", 1, &[], &[], 4);
+    cases.refused("refusal 1: starts with 02", 1, &[], &size, 4);
+    let name = "refusal 1: starts with an unknown byte";
+    cases.refused(name, 1, &[], &[0xFF], 0);
+    cases.refused("refusal 2: 00", 2, &open, &[0x00], 4);
+    cases.refused("refusal 2: 04", 2, &shelved, &[0x04], 4);
+    cases.refused("refusal 2: FF", 2, &counted, &[0xFF], 4);
+    for cut in 1..size.len() {
+        let name = "refusal 3: a size cut short";
+        cases.refused(name, 3, &counted, &size[..cut], 4);
     }
-    for cut in 1..8 {
-        let stream = opening(0, 0, 0)[..cut].to_vec();
-        cases.refused("refusal 3 before 5: an opening cut short", stream, 4, 3, 0);
+    for cut in 1..zeros.len() {
+        let name = "refusal 3 before 5: an opening cut short";
+        cases.refused(name, 3, &[], &zeros[..cut], 4);
     }
-    cases.refused("refusal 4", with(&[&[0x03], &open]), 4, 4, 9);
-    for cut in 1..8 {
-        let stream = with(&[&size, &open[..cut]]);
-        cases.refused(
-            "refusal 4 before 3: a second opening cut short",
-            stream,
-            4,
-            4,
-            13,
-        );
+    cases.refused("refusal 4", 4, &counted, &open, 4);
+    for cut in 1..open.len() {
+        let name = "refusal 4 before 3: a second opening cut short";
+        cases.refused(name, 4, &shelved, &open[..cut], 4);
     }
-    cases.refused(
-        "refusal 4 before 5: a second opening outside its limits",
-        with(&[&opening(0, 0, 0)]),
-        4,
-        4,
-        8,
-    );
+    let name = "refusal 4 before 5: a second opening outside its limits";
+    cases.refused(name, 4, &open, &zeros, 4);
+    let faults = [&open[..], &[0x07]].concat();
+    cases.refused("the first faulty command decides", 4, &counted, &faults, 4);
+}
+
+/// Refusal 5.
+fn openings(cases: &mut Cases) {
     let outside = [
         (0, 4, 6),
         (16_777_217, 4, 6),
@@ -330,238 +289,155 @@ fn stream_refusals(cases: &mut Cases) {
         (60, 4, 255),
     ];
     for (capacity, stock, m) in outside {
-        let stream = [&opening(capacity, stock, m)[..], &[0xFF]].concat();
-        cases.refused("refusal 5, before a later fault", stream, 0, 5, 0);
+        let mut faults = opening(capacity, stock, m).bytes();
+        faults.push(0xFF);
+        cases.refused("refusal 5, before a later fault", 5, &[], &faults, 0);
     }
-    for (capacity, stock, m) in [(1, 1, 6), (16_777_216, 512, 9)] {
-        cases.accepted(
-            "an opening at its limits",
-            &[opening(capacity, stock, m)],
-            &[],
-            (0, 0),
-        );
+    for opening in [opening(1, 1, 6), opening(16_777_216, 512, 9)] {
+        cases.accepted("an opening at its limits", &opening.bytes(), &[], (0, 0));
     }
+}
 
-    let mut ones = vec![opening(16_777_216, 1, 6)];
-    ones.extend(vec![shelve(1); 4096]);
-    cases.accepted(
-        "4,096 masters in one cartridge",
-        &ones,
-        &[1; 4096],
-        (4096, 1),
-    );
-    let full = with(&[&[0x03; 4096]]);
-    cases.accepted(
-        "4,096 commands",
-        std::slice::from_ref(&full),
-        &[0; 4096],
-        (0, 0),
-    );
-    for last in [&[0x03][..], &[0xFF], &[0x01], &[0x02], &size, &open] {
-        let stream = [&full[..], last].concat();
-        cases.refused(
-            "refusal 6 whatever the 4,097th command",
-            stream,
-            4096,
-            6,
-            8 + 4096,
-        );
-    }
-    let mut earlier = [&full[..], &[0x03]].concat();
-    earlier[8 + 4095] = 0x09;
-    cases.refused("an earlier fault before 6", earlier, 4096, 2, 8 + 4095);
-    cases.refused(
-        "refusal 6 before 7",
-        [&full[..], &[3]].concat(),
-        0,
-        6,
-        8 + 4096,
-    );
+/// Refusals 6 and 7.
+fn numbers_of_commands(cases: &mut Cases) {
+    let ones = sent(opening(16_777_216, 1, 6), &[Shelve(1); 4096]);
+    let name = "4,096 masters in one cartridge";
+    cases.accepted(name, &ones, &[1; 4096], (4096, 1));
 
-    cases.refused("refusal 7: no word", with(&[&[0x03]]), 0, 7, 9);
-    cases.refused("refusal 7: one word short", with(&[&size, &size]), 1, 7, 18);
-    cases.refused("refusal 7: one of 4,096 short", full, 4095, 7, 8 + 4096);
-    cases.refused(
-        "another fault before 7",
-        with(&[&size, &[0x02, 0]]),
-        0,
-        3,
-        13,
-    );
-    cases.refused(
-        "the first faulty command decides",
-        with(&[&[0x03], &open, &[0x07]]),
-        4,
-        4,
-        9,
-    );
+    let full = sent(OPEN, &[Count; 4096]);
+    cases.accepted("4,096 commands", &full, &[0; 4096], (0, 0));
+
+    let (open, size, count) = (OPEN.bytes(), Shelve(22).bytes(), Count.bytes());
+    for last in [&count, &[0xFF][..], &open[..1], &size[..1], &size, &open] {
+        let name = "refusal 6 whatever the 4,097th command";
+        cases.refused(name, 6, &full, last, 4096);
+    }
+    let faults = [&[0x09], &count[..]].concat();
+    let name = "an earlier fault before 6";
+    cases.refused(name, 2, &sent(OPEN, &[Count; 4095]), &faults, 4096);
+    cases.refused("refusal 6 before 7", 6, &full, &count, 0);
+
+    cases.refused("refusal 7: no word", 7, &sent(OPEN, &[Count]), &[], 0);
+    let two = sent(OPEN, &[Shelve(22); 2]);
+    cases.refused("refusal 7: one word short", 7, &two, &[], 1);
+    cases.refused("refusal 7: one of 4,096 short", 7, &full, &[], 4095);
+    let name = "another fault before 7";
+    cases.refused(name, 3, &sent(OPEN, &[Shelve(22)]), &size[..2], 0);
 }
 
 fn item_refusals(cases: &mut Cases) {
+    let commands = [
+        Shelve(0),
+        Shelve(61),
+        Shelve(u32::MAX),
+        Count,
+        Shelve(60),
+        Shelve(0),
+        Shelve(61),
+        Shelve(60),
+        Shelve(1),
+        Count,
+    ];
     cases.accepted(
         "refusals 8, 9 and 10 and their order",
-        &[
-            opening(60, 1, 6),
-            shelve(0),
-            shelve(61),
-            shelve(u32::MAX),
-            count(),
-            shelve(60),
-            shelve(0),
-            shelve(61),
-            shelve(60),
-            shelve(1),
-            count(),
-        ],
+        &sent(opening(60, 1, 6), &commands),
         &[r(8), r(9), r(9), 0, 1, r(8), r(9), r(10), r(10), 1],
         (1, 1),
     );
-    let mut spent = vec![opening(10, 512, 7)];
-    spent.extend(vec![shelve(10); 513]);
-    let mut words: Vec<u16> = (1..=512).collect();
-    words.push(r(10));
-    cases.accepted(
-        "513 masters over a stock of 512",
-        &spent,
-        &words,
-        (512, 512),
-    );
+    let spent = sent(opening(10, 512, 7), &[Shelve(10); 513]);
+    let words: Vec<u16> = (1..=512).chain([r(10)]).collect();
+    let name = "513 masters over a stock of 512";
+    cases.accepted(name, &spent, &words, (512, 512));
 }
 
-fn plan_refusals(cases: &mut Cases) {
-    let good = plan(&[(30, 1), (30, 1), (20, 2)], &[30, 30, 20], 60, 2);
-    cases.plan(
-        "a plan with k larger than its use",
-        &PlanTrial {
-            k: 9,
-            ..good.clone()
-        },
-        Ok(()),
-    );
+/// Refusals 11 and 12.
+fn plan_limits(cases: &mut Cases) {
+    let with = |k: u32, capacity: u32| own_plan(&[(30, 1), (30, 1), (20, 2)], capacity, k);
+    let name = "a plan with k larger than its use";
+    cases.plan(name, &with(9, 60), Ok(()));
     for capacity in [0, 16_777_217, u32::MAX] {
-        let trial = PlanTrial {
-            capacity,
-            k: 4097,
-            ..good.clone()
-        };
-        cases.plan("refusal 11 before 12", &trial, Err((11, 0)));
+        let trial = with(4097, capacity);
+        cases.plan("refusal 11 before 12", &trial, refuse(11, 0));
     }
     for k in [4097, u32::MAX] {
         let items = vec![30];
         let trial = PlanTrial {
-            k,
             items,
-            ..good.clone()
+            ..with(k, 60)
         };
-        cases.plan("refusal 12 for k, before 16", &trial, Err((12, 0)));
+        cases.plan("refusal 12 for k, before 16", &trial, refuse(12, 0));
     }
     let ones =
         |entries: usize, items: usize| plan(&vec![(1, 1); entries], &vec![1; items], 5000, 4096);
     cases.plan("4,096 entries", &ones(4096, 4096), Ok(()));
-    cases.plan("refusal 12 for the plan", &ones(4097, 4096), Err((12, 0)));
-    cases.plan(
-        "refusal 12 for the masters",
-        &ones(4096, 4097),
-        Err((12, 0)),
-    );
-    cases.plan("refusal 12 for both", &ones(4097, 4097), Err((12, 0)));
+    for (name, trial) in [
+        ("refusal 12 for the plan", ones(4097, 4096)),
+        ("refusal 12 for the masters", ones(4096, 4097)),
+        ("refusal 12 for both", ones(4097, 4097)),
+    ] {
+        cases.plan(name, &trial, refuse(12, 0));
+    }
+}
 
+/// Refusals 13 to 16.
+fn plan_entries(cases: &mut Cases) {
+    let bins = vec![1, 1, 2, 0];
     let longer_row = PlanTrial {
-        bins: vec![1, 1, 2, 0],
-        ..good.clone()
+        bins,
+        ..own_plan(&[(30, 1), (30, 1), (20, 2)], 60, 2)
     };
-    cases.plan(
-        "a place that only one row has is not in the plan",
-        &longer_row,
-        Ok(()),
-    );
-    cases.plan(
-        "refusal 16: no entry",
-        &plan(&[], &[30], 60, 1),
-        Err((16, 1)),
-    );
+    let name = "a place that only one row has is not in the plan";
+    cases.plan(name, &longer_row, Ok(()));
+    let name = "refusal 16: no entry";
+    cases.plan(name, &plan(&[], &[30], 60, 1), refuse(16, 1));
     cases.plan(
         "refusal 16 for the lengths, before any entry",
         &plan(&[(0, 0), (0, 0)], &[30], 60, 1),
-        Err((16, 2)),
+        refuse(16, 2),
     );
     cases.plan(
         "refusal 16 for a size, before 13, 14, 15",
         &plan(&[(30, 1), (0, 0)], &[30, 61], 60, 1),
-        Err((16, 2)),
+        refuse(16, 2),
     );
     for size in [0, 61, u32::MAX] {
-        let trial = plan(&[(30, 1), (size, 0)], &[30, size], 60, 1);
-        cases.plan("refusal 13 before 14 and 15", &trial, Err((13, 2)));
+        let trial = own_plan(&[(30, 1), (size, 0)], 60, 1);
+        cases.plan("refusal 13 before 14 and 15", &trial, refuse(13, 2));
     }
     for bin in [0, 3, u32::MAX] {
-        let trial = plan(&[(60, 1), (60, bin)], &[60, 60], 60, 2);
-        cases.plan("refusal 14", &trial, Err((14, 2)));
+        let trial = own_plan(&[(60, 1), (60, bin)], 60, 2);
+        cases.plan("refusal 14", &trial, refuse(14, 2));
     }
-    cases.plan(
-        "refusal 14: k is 0",
-        &plan(&[(1, 1)], &[1], 1, 0),
-        Err((14, 1)),
-    );
-    cases.plan(
-        "refusal 15 at the first entry too many",
-        &plan(
-            &[(30, 2), (30, 1), (31, 2), (31, 1)],
-            &[30, 30, 31, 31],
-            60,
-            2,
-        ),
-        Err((15, 3)),
-    );
+    let name = "refusal 14: k is 0";
+    cases.plan(name, &own_plan(&[(1, 1)], 1, 0), refuse(14, 1));
+    let overfull = own_plan(&[(30, 2), (30, 1), (31, 2), (31, 1)], 60, 2);
+    let name = "refusal 15 at the first entry too many";
+    cases.plan(name, &overfull, refuse(15, 3));
     cases.plan(
         "the first faulty entry decides",
         &plan(&[(31, 1), (30, 1), (5, 1)], &[31, 30, 6], 60, 1),
-        Err((15, 2)),
+        refuse(15, 2),
     );
 }
 
 /// Lists that do badly, with the plans that do well: Theorem 1 further on, and
 /// those that reach 3 * opened = 5 * k + 5.
 fn worst_lists(cases: &mut Cases) {
-    cases.placed(
-        "five for two, capacity 11",
-        (11, 512, 6),
-        &[6, 5, 6, 4, 1],
-        &[1, 2, 3, 4, 5],
-    );
-    cases.plan(
-        "five for two: the plan",
-        &plan(
-            &[(6, 1), (5, 1), (6, 2), (4, 2), (1, 2)],
-            &[6, 5, 6, 4, 1],
-            11,
-            2,
-        ),
-        Ok(()),
-    );
+    let name = "five for two, capacity 11";
+    cases.placed(name, 11, &[6, 5, 6, 4, 1], &[1, 2, 3, 4, 5]);
+    let two = own_plan(&[(6, 1), (5, 1), (6, 2), (4, 2), (1, 2)], 11, 2);
+    cases.plan("five for two: the plan", &two, Ok(()));
     let mut ten = vec![598, 998, 1460, 1460, 1539, 1539, 1500, 1499, 2401, 2001];
     ten.extend([3001; 5]);
-    cases.placed(
-        "ten for five, capacity 6000",
-        (6000, 512, 6),
-        &ten,
-        &[1, 1, 1, 1, 2, 2, 2, 3, 4, 5, 6, 7, 8, 9, 10],
-    );
+    let bins = [1, 1, 1, 1, 2, 2, 2, 3, 4, 5, 6, 7, 8, 9, 10];
+    cases.placed("ten for five, capacity 6000", 6000, &ten, &bins);
 
     for n in [7, 13, 19, 25] {
-        family(
-            cases,
-            &format!("Theorem 1, n = {n}"),
-            6,
-            families::theorem_1_slowly(n),
-        );
+        let name = format!("Theorem 1, n = {n}");
+        family(cases, &name, 6, families::theorem_1_slowly(n));
     }
-    family(
-        cases,
-        "Theorem 1 by quarters",
-        6,
-        families::theorem_1_by_quarters(7),
-    );
+    let quarters = families::theorem_1_by_quarters(7);
+    family(cases, "Theorem 1 by quarters", 6, quarters);
     for k in 1..=families::TIGHT_MOST {
         for m in 6..=9 {
             let name = format!("tight, k = {k}, m = {m}");
@@ -578,27 +454,20 @@ fn family(cases: &mut Cases, name: &str, m: u8, family: Family) {
         k,
         opened,
     } = family;
-    let mut stream = opening(capacity, 512, m);
-    for &size in &sizes {
-        stream.extend(shelve(size));
-    }
-    let trial = StreamTrial {
-        kind: "case",
-        stream,
-        lent: sizes.len(),
-        fill: 3,
-    };
-    let items = sizes.len();
+    let stream = Stream::of_sizes(opening(capacity, 512, m), &sizes);
+    let trial = case(stream.bytes(), sizes.len());
+    let paper = by_paper(&trial);
     let totals = Totals {
-        items,
+        items: sizes.len(),
         opened: opened as usize,
     };
-    for (side, outcome) in [("paper", by_paper(&trial)), ("library", by_library(&trial))] {
-        let good = outcome.totals() == Some(totals);
-        cases.check(name, good, || format!("{side}: {outcome}"));
-    }
-    let entries: Vec<(u32, u32)> = sizes.iter().copied().zip(bins).collect();
-    cases.plan(name, &plan(&entries, &sizes, capacity, k), Ok(()));
+    cases.check(name, paper.totals() == Some(totals), || {
+        format!("paper: {paper}")
+    });
+    let library = by_library(&trial);
+    cases.check(name, library == paper, || format!("library: {library}"));
+    let entries: Vec<(u32, u32)> = sizes.into_iter().zip(bins).collect();
+    cases.plan(name, &own_plan(&entries, capacity, k), Ok(()));
     cases.check(name, 3 * opened <= 5 * k + 15, || {
         format!("{opened} for {k}")
     });
