@@ -8,6 +8,7 @@ mod cases;
 mod compare;
 mod families;
 mod fewest;
+mod lists;
 mod paper;
 mod plans;
 mod rng;

@@ -2,9 +2,9 @@
 
 use crate::families;
 use crate::fewest::first_fit_decreasing;
+use crate::lists::random_m;
 use crate::paper::{self, MOST_ENTRIES};
 use crate::rng::Rng;
-use crate::streams::random_m;
 use crate::wire::{opening, Refusal, Stream, MOST_CAPACITY, MOST_STOCK};
 
 /// The largest k.

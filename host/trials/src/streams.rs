@@ -1,10 +1,8 @@
-//! Random streams: plain, adversarial, and damaged.
+//! Random stream trials: streams as they are, and damaged ones.
 
-use crate::families::{self, Family};
+use crate::lists::{b2_run, family, list, long, random_opening, short_list};
 use crate::rng::Rng;
-use crate::wire::Command::{Count, Shelve};
-use crate::wire::{opening, Opening, Stream};
-use crate::wire::{LEAST_M, MOST_CAPACITY, MOST_COMMANDS, MOST_M, MOST_STOCK};
+use crate::wire::{Command, LEAST_M, MOST_CAPACITY, MOST_COMMANDS, MOST_M, MOST_STOCK};
 
 /// A stream and the row lent with it.
 #[derive(Clone)]
@@ -46,225 +44,6 @@ pub fn random(rng: &mut Rng) -> StreamTrial {
         lent,
         fill: rng.word(),
     }
-}
-
-pub fn random_m(rng: &mut Rng) -> u8 {
-    rng.between(LEAST_M.into(), MOST_M.into()) as u8
-}
-
-fn random_opening(rng: &mut Rng) -> Opening {
-    let capacity = match rng.between(0, 9) {
-        0..=2 => rng.between(1, 30),
-        3..=4 => rng.between(1, 200),
-        5 => 60 * rng.between(1, 50),
-        6 => u64::from(MOST_CAPACITY) - rng.pick(&[2, 1, 0]),
-        _ => {
-            let bits = rng.between(1, 24);
-            rng.between(1, 1 << bits)
-        }
-    };
-    let most = u64::from(MOST_STOCK);
-    let stock = match rng.between(0, 7) {
-        0 => rng.pick(&[1, 2]),
-        1..=2 => rng.between(1, 20),
-        3 => rng.pick(&[most - 1, most]),
-        4 => rng.between(1, most),
-        5 => 1 << rng.between(0, 9),
-        _ => most,
-    };
-    opening(capacity as u32, stock as u16, random_m(rng))
-}
-
-/// How the sizes of one stream are chosen.
-#[derive(Clone, Copy)]
-enum Sizes {
-    Uniform,
-    /// At and beside the fractions where classes and fits change.
-    Edges,
-    /// A class, then a size of it.
-    Classes,
-    /// Fractions that leave little free.
-    Parts,
-    Small,
-}
-
-fn random_sizes(rng: &mut Rng) -> Sizes {
-    use Sizes::*;
-    rng.pick(&[Uniform, Edges, Edges, Classes, Classes, Parts, Small])
-}
-
-fn random_size(rng: &mut Rng, sizes: Sizes, capacity: u32) -> u32 {
-    let c = u64::from(capacity);
-    let size = match sizes {
-        Sizes::Uniform => rng.between(1, c),
-        Sizes::Edges => {
-            let (p, q) = rng.pick(&[
-                (1, 3),
-                (1, 3),
-                (2, 5),
-                (2, 5),
-                (1, 2),
-                (1, 2),
-                (2, 3),
-                (3, 5),
-            ]);
-            (c * p / q + rng.between(0, 2)).saturating_sub(1)
-        }
-        Sizes::Classes => {
-            let (least, most) = rng.pick(&[
-                (c / 2 + 1, c),
-                (2 * c / 5 + 1, c / 2),
-                (c / 3 + 1, 2 * c / 5),
-                (1, c / 3),
-            ]);
-            // In a small capacity a class can be empty.
-            rng.between(least.min(most).max(1), most.max(1))
-        }
-        Sizes::Parts => {
-            let q = rng.between(2, 7);
-            (c / q + rng.between(0, 4)).saturating_sub(2)
-        }
-        Sizes::Small => rng.between(1, c / 8 + 1),
-    };
-    size as u32
-}
-
-fn bad_size(rng: &mut Rng, capacity: u32) -> u32 {
-    match rng.between(0, 5) {
-        0..=1 => 0,
-        2..=3 => capacity + 1,
-        4 => u32::MAX,
-        _ => rng.between(u64::from(capacity) + 1, u32::MAX.into()) as u32,
-    }
-}
-
-/// So many commands: items, good and bad, and counts.
-fn mixed(rng: &mut Rng, opening: Opening, sizes: Sizes, len: usize) -> Stream {
-    let mut command = || match rng.between(0, 99) {
-        0..=5 => Count,
-        6..=10 => Shelve(bad_size(rng, opening.capacity)),
-        _ => Shelve(random_size(rng, sizes, opening.capacity)),
-    };
-    let commands = (0..len).map(|_| command()).collect();
-    Stream { opening, commands }
-}
-
-fn list(rng: &mut Rng, longest: u64) -> Stream {
-    let opening = random_opening(rng);
-    let sizes = random_sizes(rng);
-    let len = rng.between(0, longest) as usize;
-    mixed(rng, opening, sizes, len)
-}
-
-/// Short enough to find the fewest bins; often a list that fills some bins and
-/// comes in the order that serves the method worst, smallest first.
-fn short_list(rng: &mut Rng) -> Stream {
-    if rng.chance(50) {
-        return list(rng, 13);
-    }
-    let opening = random_opening(rng);
-    let capacity = opening.capacity;
-    let mut sizes = Vec::new();
-    for _ in 0..rng.between(1, 4) {
-        let a = capacity / 2 + 1;
-        let rest = capacity - a.min(capacity);
-        let part = match rng.between(0, 3) {
-            0 => 2 * capacity / 5 + 1,
-            1 => capacity / 3 + 1,
-            2 => rest / 2,
-            _ => rng.between(0, rest.into()) as u32,
-        };
-        sizes.extend([a, part.min(rest), rest.saturating_sub(part)]);
-    }
-    if rng.chance(60) {
-        sizes.sort_unstable();
-    } else {
-        rng.shuffle(&mut sizes);
-    }
-    Stream::of_sizes(opening, &sizes)
-}
-
-/// B2 items and a few A over a stock that runs out, so that some m-th B2 find
-/// an A, some open a bin, and some are refused and come again.
-fn b2_run(rng: &mut Rng) -> Stream {
-    let mut opening = random_opening(rng);
-    opening.capacity = opening.capacity.max(12);
-    opening.stock = rng.between(1, 12) as u16;
-    let c = u64::from(opening.capacity);
-    let b2 = (c / 3 + 1, (2 * c / 5).max(c / 3 + 1));
-    let mut commands = Vec::new();
-    for _ in 0..rng.between(6, 70) {
-        let size = match rng.between(0, 19) {
-            0..=13 => rng.between(b2.0, b2.1),
-            14..=15 => rng.between(c / 2 + 1, c - b2.0),
-            16 => c - b2.1 + rng.between(0, 1),
-            17 => rng.between(c / 2 + 1, c),
-            18 => rng.between(1, c / 3),
-            _ => bad_size(rng, opening.capacity).into(),
-        };
-        commands.push(Shelve(size as u32));
-        if rng.chance(4) {
-            commands.push(Count);
-        }
-    }
-    Stream { opening, commands }
-}
-
-/// One of the families, as it is or nearly so.
-fn family(rng: &mut Rng) -> Stream {
-    let Family {
-        capacity,
-        mut sizes,
-        opened,
-        ..
-    } = match rng.between(0, 2) {
-        0 => families::theorem_1_by_quarters(rng.pick(&[3, 5, 7, 9])),
-        1 => families::theorem_1_slowly(rng.pick(&[7, 13, 19, 25])),
-        _ => families::tight(rng.between(1, families::TIGHT_MOST.into()) as u32),
-    };
-    match rng.between(0, 3) {
-        0 => {
-            for _ in 0..rng.between(1, 3) {
-                let i = rng.place(sizes.len());
-                sizes[i] = sizes[i] + 1 - rng.pick(&[0, 2]);
-            }
-        }
-        1 => {
-            let i = rng.place(sizes.len());
-            let j = rng.place(sizes.len());
-            sizes.swap(i, j);
-        }
-        _ => {}
-    }
-    let most = MOST_STOCK.into();
-    let stock = rng.pick(&[most, most, opened, opened - 1]) as u16;
-    let opening = opening(capacity, stock, random_m(rng));
-    let mut commands = Vec::new();
-    for size in sizes {
-        if rng.chance(3) {
-            commands.push(Count);
-        }
-        if rng.chance(3) {
-            commands.push(Shelve(bad_size(rng, capacity)));
-        }
-        commands.push(Shelve(size));
-    }
-    Stream { opening, commands }
-}
-
-/// Exactly as many commands as are allowed, sometimes with every item accepted.
-fn long(rng: &mut Rng) -> Stream {
-    let mut opening = random_opening(rng);
-    if rng.chance(30) {
-        opening.capacity = opening.capacity.max(100);
-        opening.stock = MOST_STOCK;
-        let most = u64::from(opening.capacity) / 10;
-        let size = |_| rng.between(1, most) as u32;
-        let sizes: Vec<u32> = (0..MOST_COMMANDS).map(size).collect();
-        return Stream::of_sizes(opening, &sizes);
-    }
-    let sizes = random_sizes(rng);
-    mixed(rng, opening, sizes, MOST_COMMANDS)
 }
 
 fn noise(rng: &mut Rng) -> Vec<u8> {
@@ -315,7 +94,7 @@ fn damaged_opening(rng: &mut Rng) -> Vec<Vec<u8>> {
 fn around_the_limit(rng: &mut Rng) -> Vec<Vec<u8>> {
     let near = |rng: &mut Rng| MOST_COMMANDS - 2 + rng.place(5);
     let mut pieces = list(rng, 20).pieces();
-    pieces.resize(1 + near(rng), Count.bytes());
+    pieces.resize(1 + near(rng), Command::Count.bytes());
     for _ in 0..rng.between(0, 2) {
         let place = near(rng);
         let odd = odd_command(rng);
@@ -335,7 +114,7 @@ fn odd_command(rng: &mut Rng) -> Vec<u8> {
     match rng.between(0, 5) {
         0..=1 => vec![rng.pick(&[0, 4, 5, 6, 7, 0x11, 0x80, 255])],
         2 => {
-            let bytes = Shelve(rng.word() as u32).bytes();
+            let bytes = Command::Shelve(rng.word() as u32).bytes();
             cut_short(rng, bytes)
         }
         3 => odd_opening(rng),
