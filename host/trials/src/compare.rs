@@ -1,15 +1,14 @@
-//! Both sides on one trial, and a first difference made small.
+//! Both sides on one trial.
 
 use std::fmt;
 use std::panic::{self, AssertUnwindSafe};
 use std::sync::atomic::{AtomicBool, Ordering};
-use std::time::{Duration, Instant};
 
 use crate::paper::{self, Totals};
 use crate::plans::PlanTrial;
 use crate::rng::Rng;
 use crate::streams::StreamTrial;
-use crate::wire::{self, opening, Command, Opening, Part, Refusal, LEAST_M};
+use crate::wire::{self, Refusal};
 
 /// Words before and after the lent row that no call may touch.
 const GUARD: usize = 8;
@@ -118,187 +117,18 @@ pub fn plan_by_library(trial: &PlanTrial) -> Option<Result<(), Refusal>> {
     Some(rows.map_err(seen))
 }
 
-/// Follows smaller trials that still fail, until none does or time is up.
-fn shrink<T>(
-    mut trial: T,
-    smaller: impl Fn(&T) -> Box<dyn Iterator<Item = T> + '_>,
-    fails: impl Fn(&T) -> bool,
-) -> T {
-    let deadline = Instant::now() + Duration::from_secs(5);
-    loop {
-        let found = smaller(&trial)
-            .take_while(|_| Instant::now() < deadline)
-            .find(&fails);
-        match found {
-            Some(smaller) => trial = smaller,
-            None => return trial,
-        }
-    }
-}
-
-/// The blocks of a row to leave out, the largest first.
-fn blocks(len: usize) -> impl Iterator<Item = std::ops::Range<usize>> {
-    let sizes = std::iter::successors(Some(len), |&size| (size > 1).then_some(size / 2));
-    sizes.flat_map(move |size| {
-        let starts = (0..len).step_by(size.max(1));
-        starts.map(move |start| start..(start + size).min(len))
-    })
-}
-
-/// Smaller numbers to try in place of this one.
-fn lower(n: u32) -> impl Iterator<Item = u32> {
-    [0, 1, n / 2, n - n / 8, n.saturating_sub(1)]
-        .into_iter()
-        .filter(move |&lower| lower < n)
-}
-
-/// The part with one of its numbers lowered.
-fn lowered(part: Part) -> Vec<Part> {
-    match part {
-        Part::Opening(Opening { capacity, stock, m }) => {
-            let capacities = lower(capacity).map(|n| opening(n, stock, m));
-            let stocks = lower(stock.into()).map(|n| opening(capacity, n as u16, m));
-            let ms = (LEAST_M..m).map(|n| opening(capacity, stock, n));
-            let openings = capacities.chain(stocks).chain(ms);
-            openings.map(Part::Opening).collect()
-        }
-        Part::Command(Command::Shelve(size)) => {
-            let commands = lower(size).map(Command::Shelve);
-            commands.map(Part::Command).collect()
-        }
-        _ => Vec::new(),
-    }
-}
-
-/// The stream with capacity and sizes divided alike, which keeps most fits.
-fn scaled<'a>(parts: &[Part<'a>], by: u32) -> Option<Vec<Part<'a>>> {
-    let less = |n: u32| Some(n / by).filter(|&n| n > 0);
-    let scaled = parts.iter().map(|&part| {
-        Some(match part {
-            Part::Opening(Opening { capacity, stock, m }) => {
-                Part::Opening(opening(less(capacity)?, stock, m))
-            }
-            Part::Command(Command::Shelve(size)) => Part::Command(Command::Shelve(less(size)?)),
-            other => other,
-        })
-    });
-    scaled.collect()
-}
-
-fn parts(trial: &StreamTrial) -> Vec<Part<'_>> {
-    wire::parts(&trial.stream).map(|(_, part)| part).collect()
-}
-
-fn smaller_streams(trial: &StreamTrial) -> Box<dyn Iterator<Item = StreamTrial> + '_> {
-    let with = |parts: &[Part], lent: usize| StreamTrial {
-        stream: parts.iter().flat_map(Part::bytes).collect(),
-        lent,
-        ..trial.clone()
-    };
-    let len = parts(trial).len();
-    let dropped = blocks(len).flat_map(move |block| {
-        let mut kept = parts(trial);
-        let gone = kept.drain(block).len();
-        // A shorter row keeps its distance from the number of commands.
-        [trial.lent.saturating_sub(gone), trial.lent].map(|lent| with(&kept, lent))
-    });
-    let scales = [100, 10, 2].into_iter();
-    let scaled = scales.filter_map(move |by| Some(with(&scaled(&parts(trial), by)?, trial.lent)));
-    let shorter_rows = lower(trial.lent as u32).map(move |n| with(&parts(trial), n as usize));
-    let lower_numbers = (0..len).flat_map(move |i| {
-        let tries = lowered(parts(trial)[i]).into_iter();
-        tries.map(move |part| {
-            let mut parts = parts(trial);
-            parts[i] = part;
-            with(&parts, trial.lent)
-        })
-    });
-    let shorter = dropped.chain(scaled).chain(shorter_rows);
-    Box::new(shorter.chain(lower_numbers))
-}
-
-fn smaller_plans(trial: &PlanTrial) -> Box<dyn Iterator<Item = PlanTrial> + '_> {
-    let len = trial
-        .sizes
-        .len()
-        .max(trial.bins.len())
-        .max(trial.items.len());
-    let dropped = blocks(len).map(|block| {
-        let mut smaller = trial.clone();
-        for row in [&mut smaller.sizes, &mut smaller.bins, &mut smaller.items] {
-            let end = block.end.min(row.len());
-            row.drain(block.start.min(end)..end);
-        }
-        smaller
-    });
-    let lowered = (0..len).flat_map(move |i| {
-        let size = trial.sizes.get(i).copied().unwrap_or(0);
-        let sizes = lower(size).map(move |n| {
-            let mut smaller = trial.clone();
-            smaller.sizes[i] = n;
-            if let Some(item) = smaller.items.get_mut(i) {
-                *item -= size.min(*item) - n.min(*item);
-            }
-            smaller
-        });
-        let bin = trial.bins.get(i).copied().unwrap_or(0);
-        let bins = lower(bin).map(move |n| {
-            let mut smaller = trial.clone();
-            smaller.bins[i] = n;
-            smaller
-        });
-        sizes.chain(bins)
-    });
-    let capacities = lower(trial.capacity).map(|capacity| PlanTrial {
-        capacity,
-        ..trial.clone()
-    });
-    let ks = lower(trial.k).map(|k| PlanTrial { k, ..trial.clone() });
-    Box::new(dropped.chain(capacities).chain(ks).chain(lowered))
-}
-
-/// Shrinks a stream on which `fails` holds and shows it with both answers.
-pub fn show_stream(trial: StreamTrial, fails: impl Fn(&StreamTrial) -> bool) -> String {
-    let trial = shrink(trial, smaller_streams, fails);
-    let (paper, library) = (by_paper(&trial), by_library(&trial));
-    let hex: Vec<String> = parts(&trial)
-        .iter()
-        .map(|part| hex(&part.bytes()))
-        .collect();
-    let differing = (0..paper.words.len()).find(|&i| paper.words[i] != library.words[i]);
-    let differing = match differing {
+/// The first word on which the sides differ, in the row or around it.
+pub fn differing_word(paper: &Outcome, library: &Outcome) -> String {
+    let pairs = paper.words.iter().zip(&library.words);
+    let mut numbered = (1 - GUARD as i64..).zip(pairs);
+    match numbered.find(|(_, (paper, library))| paper != library) {
         None => "no word differs".to_string(),
-        Some(i) => format!(
-            "word {} differs: {} on paper, {} from the library",
-            i as i64 - GUARD as i64 + 1,
-            word(paper.words[i]),
-            word(library.words[i]),
+        Some((n, (&paper, &library))) => format!(
+            "word {n} differs: {} on paper, {} from the library",
+            word(paper),
+            word(library),
         ),
-    };
-    format!(
-        "stream, {} bytes, {} words lent:\n  {}\npaper:   {paper}\nlibrary: {library}\n{differing}",
-        trial.stream.len(),
-        trial.lent,
-        hex.join(" "),
-    )
-}
-
-/// Shrinks a plan on which `fails` holds and shows it with both answers.
-pub fn show_plan(trial: PlanTrial, fails: impl Fn(&PlanTrial) -> bool) -> String {
-    let trial = shrink(trial, smaller_plans, fails);
-    let library = match plan_by_library(&trial) {
-        Some(result) => verdict(result),
-        None => "outside the interface, or the two calls differ".to_string(),
-    };
-    format!(
-        "plan, capacity {}, k {}:\n  sizes {:?}\n  bins  {:?}\n  items {:?}\npaper:   {}\nlibrary: {library}",
-        trial.capacity,
-        trial.k,
-        trial.sizes,
-        trial.bins,
-        trial.items,
-        verdict(trial.by_paper()),
-    )
+    }
 }
 
 pub fn verdict(result: Result<(), Refusal>) -> String {
@@ -306,10 +136,6 @@ pub fn verdict(result: Result<(), Refusal>) -> String {
         Ok(()) => "passed".to_string(),
         Err(Refusal { number, at }) => format!("refused {number} at place {at}"),
     }
-}
-
-fn hex(bytes: &[u8]) -> String {
-    bytes.iter().map(|byte| format!("{byte:02X}")).collect()
 }
 
 fn word(word: u16) -> String {

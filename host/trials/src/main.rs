@@ -12,16 +12,18 @@ mod lists;
 mod paper;
 mod plans;
 mod rng;
+mod smaller;
 mod streams;
 mod wire;
 
 use std::process::ExitCode;
 use std::time::{Instant, SystemTime, UNIX_EPOCH};
 
-use compare::{by_library, by_paper, plan_by_library, show_plan, show_stream, Outcome};
+use compare::{by_library, by_paper, plan_by_library, Outcome};
 use fewest::{first_fit_decreasing, Fewest};
 use plans::PlanTrial;
 use rng::Rng;
+use smaller::{show_plan, show_stream};
 use streams::StreamTrial;
 use wire::Stream;
 
