@@ -1,5 +1,7 @@
 //! Lists on which the method does badly, each with a plan that does well.
 
+use crate::rng::Rng;
+
 /// A list with a plan for it.
 pub struct Family {
     pub capacity: u32,
@@ -10,6 +12,15 @@ pub struct Family {
     pub k: u32,
     /// The bins that the method opens for the list.
     pub opened: u32,
+}
+
+/// Any one of them.
+pub fn random(rng: &mut Rng) -> Family {
+    match rng.between(0, 2) {
+        0 => theorem_1_by_quarters(rng.pick(&[3, 5, 7, 9])),
+        1 => theorem_1_slowly(rng.pick(&[7, 13, 19, 25])),
+        _ => tight(rng.between(1, TIGHT_MOST.into()) as u32),
+    }
 }
 
 /// The list of Yao's Theorem 1 for `n = delta.len()`, an odd number, where

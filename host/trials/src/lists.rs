@@ -175,11 +175,7 @@ pub fn family(rng: &mut Rng) -> Stream {
         mut sizes,
         opened,
         ..
-    } = match rng.between(0, 2) {
-        0 => families::theorem_1_by_quarters(rng.pick(&[3, 5, 7, 9])),
-        1 => families::theorem_1_slowly(rng.pick(&[7, 13, 19, 25])),
-        _ => families::tight(rng.between(1, families::TIGHT_MOST.into()) as u32),
-    };
+    } = families::random(rng);
     match rng.between(0, 3) {
         0 => {
             for _ in 0..rng.between(1, 3) {

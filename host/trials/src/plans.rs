@@ -1,6 +1,6 @@
 //! Random plans: good ones of several makers, and damaged ones.
 
-use crate::families;
+use crate::families::{self, Family};
 use crate::fewest::first_fit_decreasing;
 use crate::lists::random_m;
 use crate::paper::{self, MOST_ENTRIES};
@@ -87,17 +87,14 @@ fn decreasing(rng: &mut Rng) -> PlanTrial {
 }
 
 fn family(rng: &mut Rng) -> PlanTrial {
-    let family = match rng.between(0, 1) {
-        0 => families::theorem_1_slowly(rng.pick(&[7, 13, 19, 25])),
-        _ => families::tight(rng.between(1, families::TIGHT_MOST.into()) as u32),
-    };
-    passing(
-        "family",
-        family.sizes,
-        family.bins,
-        family.capacity,
-        family.k,
-    )
+    let Family {
+        capacity,
+        sizes,
+        bins,
+        k,
+        ..
+    } = families::random(rng);
+    passing("family", sizes, bins, capacity, k)
 }
 
 /// As many entries, bins or both as are allowed.
