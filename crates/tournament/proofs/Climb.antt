@@ -7,15 +7,15 @@ use native.Mathlib.Omega.{arith}
 use lib.ListN.{length, getD, set, length-set}
 use lib.Seq.{getD-set-same, getD-set-other}
 use Rattle.tournament.specs.declared.Shape.{Shape}
-use Rattle.tournament.specs.Trees.{node, leaves, sibling, Right, Tree}
+use Rattle.tournament.specs.Trees.{rowWords, node, leaves, sibling, Right, Tree}
 use Rattle.tournament.specs.Stored.{Stored}
 use Rattle.tournament.proofs.Leaves.{leaf-node, leaves-set, leaves-same}
 
 -- s is the row once the leaf is set, t the row now; node n of t holds v, and every node is right but the parent of n.
 pub record Climb (b places : ℕ) (s t : List ℕ) (n v : ℕ) : Type 0 where
-  pub start : length s ≡ 5120
-  pub words : length t ≡ 5120
-  pub room : b + 2 * places ≤ 5120
+  pub start : length s ≡ rowWords
+  pub words : length t ≡ rowWords
+  pub room : b + 2 * places ≤ rowWords
   pub low : 1 ≤ n
   pub high : n < 2 * places
   pub here : node t b n ≡ v
@@ -78,7 +78,7 @@ module _ (b : ℕ) (shape : Shape) (t : List ℕ) (place value : ℕ) (tree : Tr
   }
 
 module _ (b places : ℕ) (s t : List ℕ) (n v : ℕ) (c : Climb b places s t n v) (l : 1 < n) where
-  pub sibling-inside : b + sibling n < 5120
+  pub sibling-inside : b + sibling n < rowWords
   sibling-inside =
       let child : sibling n ≤ 2 * (n / 2) + 1 = omega arith in
       omega (arith, c .high, c .room)

@@ -13,7 +13,7 @@ use lib.Pow.{pow-pos}
 use borrow.Author.Tests.{le-leb, lt-leb}
 use Rattle.tournament.specs.declared.Shape.{Shape}
 use Rattle.tournament.specs.declared.Found.the-variants.{At, Nothing}
-use Rattle.tournament.specs.Trees.{node, leaves, Right, Tree}
+use Rattle.tournament.specs.Trees.{rowWords, node, leaves, Right, Tree}
 use Rattle.tournament.specs.FirstFit.{firstFit}
 use Rattle.tournament.specs.Descent.{Under, Descent, First}
 use Rattle.tournament.proofs.Fits.{lowest-found, lacking-found}
@@ -71,7 +71,7 @@ module _ (t : List ℕ) (b n h need : ℕ) (z : h ≡ 0 → ⊥) (d : Descent t 
   half : Halved t b n h (h - 1)
   half = halved t b n h z (d .under)
 
-  pub child-inside : b + (2 * n + 1) < 5120
+  pub child-inside : b + (2 * n + 1) < rowWords
   child-inside = omega (arith, half .child, d .room)
 
   pub down : Descent t b chosen (h - 1) need
@@ -132,7 +132,7 @@ module _ (b : ℕ) (shape : Shape) (t : List ℕ) (tree : Tree b shape t) where
   root-under : Under t b 1 (shape .height)
   root-under = all-under (shape .height) 1 (omega arith) (omega (arith, tree .power))
 
-  pub root-inside : b + 1 < 5120
+  pub root-inside : b + 1 < rowWords
   root-inside = omega (arith, tree .power, tree .room, pow-pos (shape .height))
 
   count : length (leaves t b (shape .places)) ≡ shape .places

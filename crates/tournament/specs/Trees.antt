@@ -5,6 +5,14 @@ use Prim.Native.Nat.{ℕ, _+_, _-_, _*_, _%_, _^_, _≤_, _<_, max}
 use lib.ListN.{length, getD, take, drop}
 use Rattle.tournament.specs.declared.Shape.{Shape}
 
+-- How far apart two trees stand in the row: as many words as a tree of 512 places takes.
+abbrev pub stride : ℕ
+stride = 1024
+
+-- A row of five trees.
+abbrev pub rowWords : ℕ
+rowWords = 5 * stride
+
 -- Node n of the tree at base b: the root is node 1, the children of node n are 2n and 2n + 1.
 abbrev pub node : (t : List ℕ) (b n : ℕ) → ℕ
 node t b n = getD t (b + n) 0
@@ -24,6 +32,6 @@ Right t b n = node t b n ≡ max (node t b (2 * n)) (node t b (2 * n + 1))
 -- A tree of this shape stands at base b of the row t.
 pub record Tree (b : ℕ) (shape : Shape) (t : List ℕ) : Type 0 where
   pub power : shape .places ≡ 2 ^ shape .height
-  pub words : length t ≡ 5120
-  pub room : b + 2 * shape .places ≤ 5120
+  pub words : length t ≡ rowWords
+  pub room : b + 2 * shape .places ≤ rowWords
   pub right : (n : ℕ) → 1 ≤ n → n < shape .places → Right t b n

@@ -11,6 +11,12 @@ ghost use Rattle.tournament.specs.FirstFit.{firstFit};
 ghost use Rattle.tournament.specs.Descent.{Descent, First};
 ghost use Rattle.tournament.specs.Stored.{Stored};
 
+// How far apart two trees stand in the row: as many words as a tree of 512 places takes.
+pub const STRIDE: usize = 1024;
+
+// A row of five trees.
+pub const ROW_WORDS: usize = 5 * STRIDE;
+
 // How many places a tree has, and how far its root stands above them: the places are 2 to the power of the height.
 pub struct Shape {
     pub places: usize,
@@ -60,7 +66,14 @@ fn nearest(need: u32, largest: u32, near: usize, far: usize) -> usize
 // The lowest leaf below node `n` that holds `need` or more, where `n` stands `height` levels above the leaves and holds as much itself. Each
 // level takes one look, at the left child, which is word `look` of the row: if that is too small, the right child holds what `n` holds. (The word
 // to look at next goes down beside its node: so the compiler branches at each look, and the processor runs ahead of them.)
-fn descend(t: &[u32; 5120], base: usize, n: usize, look: usize, height: usize, need: u32) -> usize
+fn descend(
+    t: &[u32; ROW_WORDS],
+    base: usize,
+    n: usize,
+    look: usize,
+    height: usize,
+    need: u32,
+) -> usize
     requires descent { ⌜ Descent (now t) base n height need ⌝ }
     requires look { ⌜ look ≡ base + 2 * n ⌝ }
     ensures { λ r. ⌜ First (now (t .entry)) base n height need r ⌝ }
@@ -79,7 +92,7 @@ fn descend(t: &[u32; 5120], base: usize, n: usize, look: usize, height: usize, n
 }
 
 // The lowest place that holds `need` or more. A need of 0 is never searched for: a place without space would meet it.
-pub fn search(t: &[u32; 5120], base: usize, shape: Shape, need: u32) -> Found
+pub fn search(t: &[u32; ROW_WORDS], base: usize, shape: Shape, need: u32) -> Found
     requires tree { ⌜ Tree base shape (now t) ⌝ }
     requires some { ⌜ 1 ≤ need ⌝ }
     ensures { λ r. ⌜ r ≡ firstFit need (leaves (now (t .entry)) base (shape .places)) ⌝ }
@@ -96,7 +109,7 @@ pub fn search(t: &[u32; 5120], base: usize, shape: Shape, need: u32) -> Found
 }
 
 // What a place holds.
-pub fn value(t: &[u32; 5120], base: usize, shape: Shape, place: usize) -> u32
+pub fn value(t: &[u32; ROW_WORDS], base: usize, shape: Shape, place: usize) -> u32
     requires tree { ⌜ Tree base shape (now t) ⌝ }
     requires inside { ⌜ place < shape .places ⌝ }
     ensures { λ r. ⌜ r ≡ getD (leaves (now (t .entry)) base (shape .places)) place 0 ⌝ }
@@ -106,7 +119,7 @@ pub fn value(t: &[u32; 5120], base: usize, shape: Shape, place: usize) -> u32
 }
 
 // Sets a place to a value not below what it holds: the maxima above it rise to that value, as far as they are below it.
-fn raise(t: &mut [u32; 5120], base: usize, shape: Shape, place: usize, value: u32)
+fn raise(t: &mut [u32; ROW_WORDS], base: usize, shape: Shape, place: usize, value: u32)
     requires tree { ⌜ Tree base shape (now t) ⌝ }
     requires inside { ⌜ place < shape .places ⌝ }
     requires rises { ⌜ getD (leaves (now t) base (shape .places)) place 0 ≤ value ⌝ }
@@ -126,7 +139,7 @@ fn raise(t: &mut [u32; 5120], base: usize, shape: Shape, place: usize, value: u3
 }
 
 // Sets a place, and carries the new maximum upward as far as it changes anything.
-fn renew(t: &mut [u32; 5120], base: usize, shape: Shape, place: usize, value: u32)
+fn renew(t: &mut [u32; ROW_WORDS], base: usize, shape: Shape, place: usize, value: u32)
     requires tree { ⌜ Tree base shape (now t) ⌝ }
     requires inside { ⌜ place < shape .places ⌝ }
     ensures { λ _. ⌜ Stored base shape (now (t .entry)) place value (now (t .exit)) ⌝ }
@@ -147,7 +160,7 @@ fn renew(t: &mut [u32; 5120], base: usize, shape: Shape, place: usize, value: u3
 }
 
 // Sets a place. A value that rises, as that of a bin just opened, needs no look at the siblings above it.
-pub fn store(t: &mut [u32; 5120], base: usize, shape: Shape, place: usize, value: u32)
+pub fn store(t: &mut [u32; ROW_WORDS], base: usize, shape: Shape, place: usize, value: u32)
     requires tree { ⌜ Tree base shape (now t) ⌝ }
     requires inside { ⌜ place < shape .places ⌝ }
     ensures { λ _. ⌜ Stored base shape (now (t .entry)) place value (now (t .exit)) ⌝ }

@@ -6,7 +6,7 @@ use native.Mathlib.Omega.{arith}
 use lib.Dec.{leb}
 use borrow.Fn.Kinds.{In}
 use borrow.Fn.PlainCycle.{Measures, is, falls, and}
-use Rattle.tournament.specs.Trees.{node}
+use Rattle.tournament.specs.Trees.{rowWords, node}
 use Rattle.tournament.proofs.Halves.{word-below, child-inside, down, up, bottom}
 use Rattle.tournament.proofs.descend.Reads as descend
 use Rattle.tournament.proofs.descend.Kinds as descend-kinds
@@ -26,7 +26,7 @@ descend-below t = and 1 descend-kinds.ps (falls 1 descend-kinds.ps _<_ μ-descen
 
 -- Where the height is not 0, the children are words of the row, and the word to look at is the left child.
 inside : (t : ℕ) (c : descend-lts.Else1 (nearest-reads.Asked, nearest-reads.Learnt, descend-below t, descend.Post) (descend-at t) descend.Post)
-    → c .before .args .base + (2 * c .before .args .n + 1) < 5120
+    → c .before .args .base + (2 * c .before .args .n + 1) < rowWords
 inside t c = child-inside _ _ _ _ _ (c .if1 .left) (c .before .pre .1 .0)
 
 -- Both are chosen by the one look: the child, and the word of its left child.
