@@ -3,5 +3,3 @@ pub mod Powers
 pub mod Fits
 pub mod Leaves
 pub mod Halves
-pub mod Siblings
-pub mod Climb

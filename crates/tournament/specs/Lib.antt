@@ -1,6 +1,5 @@
--- What the tournament tree is and what its calls promise: its shape, the row it stands in, first fit, the descent, the store.
+-- What the tournament tree is and what its calls promise: its shape, the row it stands in, first fit, the descent.
 pub mod Shapes
 pub mod Trees
 pub mod FirstFit
 pub mod Descent
-pub mod Stored

@@ -2,14 +2,13 @@
 // leaves, one a place, are the nodes from the number of its places up. Each node holds the larger of its two children.
 ghost use mathlib.Core.Path.{_≡_};
 ghost use mathlib.Core.Bool.{cond};
-ghost use Prim.Native.Nat.{_+_, _*_, _≤_, _<_, max};
+ghost use Prim.Native.Nat.{_+_, _*_, _≤_, _<_};
 ghost use lib.Dec.{leb};
 ghost use lib.ListN.{getD};
 ghost use Rattle.tournament.specs.Shapes.{Fitted};
-ghost use Rattle.tournament.specs.Trees.{leaves, sibling, Tree};
+ghost use Rattle.tournament.specs.Trees.{leaves, Tree};
 ghost use Rattle.tournament.specs.FirstFit.{firstFit};
 ghost use Rattle.tournament.specs.Descent.{Descent, First};
-ghost use Rattle.tournament.specs.Stored.{Stored};
 
 // How far apart two trees stand in the row: as many words as a tree of 512 places takes.
 pub const STRIDE: usize = 1024;
@@ -41,19 +40,6 @@ pub fn shape_of(stock: u16) -> Shape
         height += 1;
     }
     Shape { places, height }
-}
-
-fn larger(a: u32, b: u32) -> u32
-    ensures { λ r. ⌜ r ≡ max a b ⌝ }
-{
-    if a < b { b } else { a }
-}
-
-// The other child of the parent of node `n`: the two differ in the lowest digit.
-fn sibling_of(n: usize) -> usize
-    ensures { λ r. ⌜ r ≡ sibling n ⌝ }
-{
-    n ^ 1
 }
 
 // The near node where its largest value is enough, else the far one.
@@ -116,59 +102,4 @@ pub fn value(t: &[u32; ROW_WORDS], base: usize, shape: Shape, place: usize) -> u
 {
     let leaf = shape.places + place;
     t[base + leaf]
-}
-
-// Sets a place to a value not below what it holds: the maxima above it rise to that value, as far as they are below it.
-fn raise(t: &mut [u32; ROW_WORDS], base: usize, shape: Shape, place: usize, value: u32)
-    requires tree { ⌜ Tree base shape (now t) ⌝ }
-    requires inside { ⌜ place < shape .places ⌝ }
-    requires rises { ⌜ getD (leaves (now t) base (shape .places)) place 0 ≤ value ⌝ }
-    ensures { λ _. ⌜ Stored base shape (now (t .entry)) place value (now (t .exit)) ⌝ }
-{
-    let places = shape.places;
-    let leaf = places + place;
-    let mut n = leaf;
-    t[base + n] = value;
-    while 1 < n {
-        n = n / 2;
-        if value <= t[base + n] {
-            return;
-        }
-        t[base + n] = value;
-    }
-}
-
-// Sets a place, and carries the new maximum upward as far as it changes anything.
-fn renew(t: &mut [u32; ROW_WORDS], base: usize, shape: Shape, place: usize, value: u32)
-    requires tree { ⌜ Tree base shape (now t) ⌝ }
-    requires inside { ⌜ place < shape .places ⌝ }
-    ensures { λ _. ⌜ Stored base shape (now (t .entry)) place value (now (t .exit)) ⌝ }
-{
-    let places = shape.places;
-    let mut n = places + place;
-    let mut largest = value;
-    t[base + n] = largest;
-    while 1 < n {
-        let sibling = sibling_of(n);
-        largest = larger(largest, t[base + sibling]);
-        n = n / 2;
-        if t[base + n] == largest {
-            return;
-        }
-        t[base + n] = largest;
-    }
-}
-
-// Sets a place. A value that rises, as that of a bin just opened, needs no look at the siblings above it.
-pub fn store(t: &mut [u32; ROW_WORDS], base: usize, shape: Shape, place: usize, value: u32)
-    requires tree { ⌜ Tree base shape (now t) ⌝ }
-    requires inside { ⌜ place < shape .places ⌝ }
-    ensures { λ _. ⌜ Stored base shape (now (t .entry)) place value (now (t .exit)) ⌝ }
-{
-    let held = crate::value(t, base, shape, place);
-    if held <= value {
-        raise(t, base, shape, place, value);
-    } else {
-        renew(t, base, shape, place, value);
-    }
 }

@@ -1,8 +1,8 @@
 -- `raise` meets its contract. The invariant: every node is right but the parent of n, and the value has not sunk. The measure is n.
 use native.Mathlib.Omega.{arith}
-use Rattle.tournament.proofs.Climb.{Rise, climb-end, rise-start, rise-up, rise-stop}
-use Rattle.tournament.proofs.raise.Statement.{statement}
-use Rattle.tournament.proofs.raise.Tie as tie
+use Rattle.climb.proofs.Climb.{Rise, climb-end, rise-start, rise-up, rise-stop}
+use Rattle.climb.proofs.raise.Statement.{statement}
+use Rattle.climb.proofs.raise.Tie as tie
 
 abbrev Inv-loop : tie.InvT-loop
 Inv-loop t₀ base place value places leaf n₀ t n = Rise base places t₀ t n value

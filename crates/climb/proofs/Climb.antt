@@ -6,10 +6,10 @@ use native.Mathlib.Decide.{ℕ-discrete}
 use native.Mathlib.Omega.{arith}
 use lib.ListN.{length, getD, set, length-set}
 use lib.Seq.{getD-set-same, getD-set-other}
 use Rattle.tournament.specs.declared.Shape.{Shape}
 use Rattle.tournament.specs.Trees.{rowWords, node, leaves, sibling, Right, Tree}
-use Rattle.tournament.specs.Stored.{Stored}
+use Rattle.climb.specs.Stored.{Stored}
 use Rattle.tournament.proofs.Leaves.{leaf-node, leaves-set, leaves-same}
 
 -- s is the row once the leaf is set, t the row now; node n of t holds v, and every node is right but the parent of n.
 pub record Climb (b places : ℕ) (s t : List ℕ) (n v : ℕ) : Type 0 where

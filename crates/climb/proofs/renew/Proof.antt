@@ -1,8 +1,8 @@
 -- `renew` meets its contract. The invariant: every node is right but the parent of n. The measure is n.
 use native.Mathlib.Omega.{arith}
-use Rattle.tournament.proofs.Climb.{Climb, climb-start, sibling-inside, climb-up, climb-stop, climb-end}
-use Rattle.tournament.proofs.renew.Statement.{statement}
-use Rattle.tournament.proofs.renew.Tie as tie
+use Rattle.climb.proofs.Climb.{Climb, climb-start, sibling-inside, climb-up, climb-stop, climb-end}
+use Rattle.climb.proofs.renew.Statement.{statement}
+use Rattle.climb.proofs.renew.Tie as tie
 
 abbrev Inv-loop : tie.InvT-loop
 Inv-loop t₀ base place value places n₀ largest₀ t n largest = Climb base places t₀ t n largest

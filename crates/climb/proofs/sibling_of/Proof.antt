@@ -1,7 +1,7 @@
 -- `sibling_of` meets its contract.
-use Rattle.tournament.proofs.Siblings.{turned}
-use Rattle.tournament.proofs.sibling_of.Statement.{statement}
-use Rattle.tournament.proofs.sibling_of.Tie as tie
+use Rattle.climb.proofs.Siblings.{turned}
+use Rattle.climb.proofs.sibling_of.Statement.{statement}
+use Rattle.climb.proofs.sibling_of.Tie as tie
 
 returns : tie.Need-returns
 returns c = turned (c .args .n)

@@ -1,0 +1,2 @@
+-- What a store promises.
+pub mod Stored
