@@ -1,11 +1,12 @@
 -- `renew` meets its contract. The invariant: every node is right but the parent of n. The measure is n.
+use Prim.Native.Nat.{ℕ}
 use native.Mathlib.Omega.{arith}
-use Rattle.climb.proofs.Climb.{Climb, climb-start, sibling-inside, climb-up, climb-stop, climb-end}
+use Rattle.climb.proofs.Climb.{Climb, climb-start, sibling-inside, climb-next, climb-end}
 use Rattle.climb.proofs.renew.Statement.{statement}
 use Rattle.climb.proofs.renew.Tie as tie
 
 abbrev Inv-loop : tie.InvT-loop
-Inv-loop t₀ base place value places n₀ largest₀ t n largest = Climb base places t₀ t n largest
+Inv-loop t₀ base place value places n₀ largest₀ t n largest = (w : ℕ) × Climb base places t₀ t n w largest
 
 abbrev μ-loop : tie.MeasureT-loop
 μ-loop t₀ base place value places n₀ largest₀ t n largest = n
@@ -23,7 +24,7 @@ element-write-t : tie.Need-element-write-t Inv-loop μ-loop
 element-write-t c = omega arith
 
 loop-holds : tie.Need-loop-holds Inv-loop μ-loop
-loop-holds c = climb-start _ _ _ _ _ (c .pre .0) (c .pre .1)
+loop-holds c = (_, climb-start (c .pre .0) (c .pre .1))
 
 sibling-of-requires : tie.Need-sibling-of-requires Inv-loop μ-loop
 sibling-of-requires c κs = tt
@@ -37,7 +38,7 @@ mul-larger c = omega arith
 element-copy-out-larger : tie.Need-element-copy-out-larger Inv-loop μ-loop
 element-copy-out-larger c =
     let turn = c .before in
-    omega (arith, c .sibling-of .ensures, sibling-inside _ _ _ _ _ _ (turn .before .loop .inv) (omega (arith, turn .loop-test .taken)))
+    omega (arith, c .sibling-of .ensures, sibling-inside (turn .before .loop .inv .1) (turn .loop-test .taken))
 
 larger-requires : tie.Need-larger-requires Inv-loop μ-loop
 larger-requires c κs = tt
@@ -56,10 +57,8 @@ returns c =
     let look = c .before .before .before .before in
     let turn = look .before in
     let start = turn .before .before in
-    climb-end _ _ _ _ _ (start .pre .0) (start .pre .1) _ _ _
-    (climb-stop _ _ _ _ _ _ (turn .before .loop .inv) (omega (arith, turn .loop-test .taken))
-    (omega (arith, c .if1 .taken, rw (look .sibling-of .ensures) at (c .before .before .larger .ensures))))
-    (omega arith)
+    climb-end (start .pre .0) (start .pre .1) (turn .before .loop .inv .1)
+    (λ l. omega (arith, c .if1 .taken, rw (look .sibling-of .ensures) at (c .before .before .larger .ensures)))
 
 add-t-2 : tie.Need-add-t-2 Inv-loop μ-loop
 add-t-2 c = omega arith
@@ -77,37 +76,15 @@ loop-again : tie.Need-loop-again Inv-loop μ-loop
 loop-again c =
     let look = c .before .before .before .before in
     let turn = look .before in
-    rw (c .before .before .larger .ensures, look .sibling-of .ensures)
-    (climb-up _ _ _ _ _ _ (turn .before .loop .inv) (omega (arith, turn .loop-test .taken)))
+    (_, climb-next (turn .before .loop .inv .1) (turn .loop-test .taken) _ (rw (look .sibling-of .ensures) at (c .before .before .larger .ensures)))
 
 returns-2 : tie.Need-returns-2 Inv-loop μ-loop
 returns-2 c =
     let start = c .before .before in
-    climb-end _ _ _ _ _ (start .pre .0) (start .pre .1) _ _ _ (c .before .loop .inv) (omega arith)
+    climb-end (start .pre .0) (start .pre .1) (c .before .loop .inv .1) (λ l. absurd (omega (arith, c .loop-test .left)))
 
 pub renew-spec : {M : Type 1} → statement M
 renew-spec =
     tie.close
-    (tie.spec
-    Inv-loop
-    μ-loop
-    add-n
-    add-t
-    mul-t
-    element-write-t
-    loop-holds
-    sibling-of-requires
-    add-larger
-    mul-larger
-    element-copy-out-larger
-    larger-requires
-    add-if1
-    mul-if1
-    element-copy-out-if1
-    returns
-    add-t-2
-    mul-t-2
-    element-write-t-2
-    loop-less
-    loop-again
-    returns-2)
+    (tie.spec Inv-loop μ-loop add-n add-t mul-t element-write-t loop-holds sibling-of-requires add-larger mul-larger element-copy-out-larger
+    larger-requires add-if1 mul-if1 element-copy-out-if1 returns add-t-2 mul-t-2 element-write-t-2 loop-less loop-again returns-2)
