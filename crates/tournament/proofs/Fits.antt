@@ -20,25 +20,6 @@ pub record Lowest (need : ℕ) (vs : List ℕ) (i : ℕ) : Type 0 where
 abbrev pub Lacking : (need : ℕ) → List ℕ → Type 0
 Lacking need vs = (k : ℕ) → k < length vs → getD vs k 0 < need
 
-pub lowest-found : (need : ℕ) (vs : List ℕ) (i : ℕ) → Lowest need vs i → firstFit need vs ≡ At i
-unfolding firstFit
-lowest-found need [] i l = absurd (omega (arith, l .inside))
-lowest-found need (v ∷ vs) zero l = rw (le-leb need v (l .enough))
-lowest-found need (v ∷ vs) (suc i) l =
-    rw (lt-leb need v (l .before zero (omega arith)))
-    (ap further
-    (lowest-found need vs i (record {
-      inside = omega (arith, l .inside);
-      enough = l .enough;
-      before = λ k b. l .before (suc k) (omega arith);
-    })))
-
-pub lacking-found : (need : ℕ) (vs : List ℕ) → Lacking need vs → firstFit need vs ≡ Nothing
-unfolding firstFit
-lacking-found need [] l = refl
-lacking-found need (v ∷ vs) l =
-    rw (lt-leb need v (l zero (omega arith))) (ap further (lacking-found need vs (λ k b. l (suc k) (omega arith))))
-
 -- What a search says of the list, by its answer.
 abbrev pub Meaning : (need : ℕ) → List ℕ → Found → Type 0
 Meaning need vs (At i) = Lowest need vs i
@@ -65,3 +46,14 @@ meaning need (v ∷ vs) = elim (decLe need v) [
   | yes y ↦ rw (le-leb need v y) (record { inside = omega arith; enough = y; before = λ k b. absurd (omega arith) })
   | no y ↦ rw (lt-leb need v (omega (arith, y))) (one-further need v vs (firstFit need vs) (omega (arith, y)) (meaning need vs))
 ]
+
+-- Only what first fit answers has its meaning.
+pub meant : (need : ℕ) (vs : List ℕ) (f : Found) → Meaning need vs f → f ≡ firstFit need vs
+unfolding firstFit
+meant need [] (At i) m = absurd (omega (arith, m .inside))
+meant need [] Nothing m = refl
+meant need (v ∷ vs) (At zero) m = rw (le-leb need v (m .enough))
+meant need (v ∷ vs) (At (suc i)) m =
+    let later : Lowest need vs i = record { inside = omega (arith, m .inside); enough = m .enough; before = λ k b. m .before (suc k) (omega arith) } in
+    rw (lt-leb need v (m .before zero (omega arith))) (ap further (meant need vs (At i) later))
+meant need (v ∷ vs) Nothing m = rw (lt-leb need v (m zero (omega arith))) (ap further (meant need vs Nothing (λ k b. m (suc k) (omega arith))))

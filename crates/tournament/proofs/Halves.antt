@@ -16,7 +16,7 @@ use Rattle.tournament.specs.declared.Found.the-variants.{At, Nothing}
 use Rattle.tournament.specs.Trees.{rowWords, node, leaves, Right, Tree}
 use Rattle.tournament.specs.FirstFit.{firstFit}
 use Rattle.tournament.specs.Descent.{Under, Descent, First}
-use Rattle.tournament.proofs.Fits.{lowest-found, lacking-found}
+use Rattle.tournament.proofs.Fits.{meant}
 use Rattle.tournament.proofs.Leaves.{leaf-node, leaves-length}
 
 -- Where the leaves below a node begin and end, a level down.
@@ -29,31 +29,6 @@ ends n h = omega (arith, add-mul n 1 (2 ^ h), one-mul (2 ^ h))
 right-ends : (n h : ℕ) → (n + 1) * 2 ^ suc h ≡ (2 * n + 1 + 1) * 2 ^ h
 right-ends n h = omega (arith, left-begins n h, two-pow-succ h, ends n (suc h), ends (2 * n) h, ends (2 * n + 1) h)
 
--- What is known of a node at height h, not 0, by the height g of its children.
-pub record Halved (t : List ℕ) (b n h g : ℕ) : Type 0 where
-  pub here : Right t b n
-  pub left : Under t b (2 * n) g
-  pub right : Under t b (2 * n + 1) g
-  pub begins : n * 2 ^ h ≡ (2 * n) * 2 ^ g
-  pub middle : (2 * n + 1) * 2 ^ g ≡ (2 * n) * 2 ^ g + 2 ^ g
-  pub end : (2 * n + 1 + 1) * 2 ^ g ≡ (2 * n + 1) * 2 ^ g + 2 ^ g
-  pub last : (n + 1) * 2 ^ h ≡ (2 * n + 1 + 1) * 2 ^ g
-  pub child : 2 * n + 1 < (n + 1) * 2 ^ h
-
-pub halved : (t : List ℕ) (b n h : ℕ) → (h ≡ 0 → ⊥) → Under t b n h → Halved t b n h (h - 1)
-unfolding Under
-halved t b n zero z u = absurd (z refl)
-halved t b n (suc h) z u = subst (λ (g : ℕ). Halved t b n (suc h) g) (sym (sub-one (suc h))) (record {
-  here = u .0;
-  left = u .1 .0;
-  right = u .1 .1;
-  begins = left-begins n h;
-  middle = ends (2 * n) h;
-  end = ends (2 * n + 1) h;
-  last = right-ends n h;
-  child = omega (arith, right-ends n h, mul-le-mul-left (2 * n + 1 + 1) (pow-pos h));
-})
-
 -- No leaf below a node is above it.
 leaf-below : (t : List ℕ) (b h n k : ℕ) → Under t b n h → n * 2 ^ h ≤ k → k < (n + 1) * 2 ^ h → node t b k ≤ node t b n
 unfolding Under
@@ -63,49 +38,53 @@ leaf-below t b (suc h) n k u x y = elim (decLe ((2 * n + 1) * 2 ^ h) k) [
   | no l ↦ omega (arith, leaf-below t b h (2 * n) k (u .1 .0) (omega (arith, left-begins n h)) (omega (arith)), u .0)
 ]
 
--- One level of the descent: the left child where it holds enough, else the right one.
-module _ (t : List ℕ) (b n h need : ℕ) (z : h ≡ 0 → ⊥) (d : Descent t b n h need) where
-  abbrev chosen : ℕ
-  chosen = cond (leb need (node t b (2 * n))) (2 * n) (2 * n + 1)
+-- One level of the descent, from node n at height h to its child c at height g: both children stand in the row, the descent goes on at c, and what
+-- it finds below c is what is to be found below n.
+pub record Level (t : List ℕ) (b n h need c g : ℕ) : Type 0 where
+  pub inside : b + (2 * n + 1) < rowWords
+  pub down : Descent t b c g need
+  pub up : (r : ℕ) → First t b c g need r → First t b n h need r
 
-  half : Halved t b n h (h - 1)
-  half = halved t b n h z (d .under)
+module _ {t : List ℕ} {b n g need : ℕ} (d : Descent t b n (suc g) need) where
+  within : b + (2 * n + 1) < rowWords
+  within = omega (arith, right-ends n g, mul-le-mul-left (2 * n + 1 + 1) (pow-pos g), d .room)
 
-  pub child-inside : b + (2 * n + 1) < rowWords
-  child-inside = omega (arith, half .child, d .room)
-
-  pub down : Descent t b chosen (h - 1) need
-  down = elim (decLe need (node t b (2 * n))) [
-    | yes y ↦ rw (le-leb need (node t b (2 * n)) y)
-        (record { under = half .left; room = omega (arith, half .last, half .end, d .room); enough = y })
-    | no y ↦ rw (lt-leb need (node t b (2 * n)) (omega (arith, y)))
-        (record { under = half .right; room = omega (arith, half .last, d .room); enough = omega (arith, half .here, d .enough, y) })
-  ]
-
-  from-left : (r : ℕ) → First t b (2 * n) (h - 1) need r → First t b n h need r
-  from-left r f = record {
-    low = omega (arith, f .low, half .begins);
-    high = omega (arith, f .high, half .last, half .end);
-    enough = f .enough;
-    before = λ k x y. f .before k (omega (arith, half .begins)) y;
+  to-left : need ≤ node t b (2 * n) → Level t b n (suc g) need (2 * n) g
+  unfolding Under
+  to-left y = record {
+    inside = within;
+    down = record { under = d .under .1 .0; room = omega (arith, right-ends n g, ends (2 * n + 1) g, d .room); enough = y };
+    up = λ r f. record {
+      low = omega (arith, f .low, left-begins n g);
+      high = omega (arith, f .high, right-ends n g, ends (2 * n + 1) g);
+      enough = f .enough;
+      before = λ k x l. f .before k (omega (arith, left-begins n g)) l;
+    };
   }
 
-  from-right : (r : ℕ) → node t b (2 * n) < need → First t b (2 * n + 1) (h - 1) need r → First t b n h need r
-  from-right r l f = record {
-    low = omega (arith, f .low, half .begins, half .middle);
-    high = omega (arith, f .high, half .last);
-    enough = f .enough;
-    before = λ k x y. elim (decLe ((2 * n + 1) * 2 ^ (h - 1)) k) [
-      | yes q ↦ f .before k q y
-      | no q ↦ omega (arith, leaf-below t b (h - 1) (2 * n) k (half .left) (omega (arith, half .begins)) (omega arith))
-    ];
+  to-right : node t b (2 * n) < need → Level t b n (suc g) need (2 * n + 1) g
+  unfolding Under
+  to-right y = record {
+    inside = within;
+    down = record { under = d .under .1 .1; room = omega (arith, right-ends n g, d .room); enough = omega (arith, d .under .0, d .enough) };
+    up = λ r f. record {
+      low = omega (arith, f .low, left-begins n g, ends (2 * n) g);
+      high = omega (arith, f .high, right-ends n g);
+      enough = f .enough;
+      before = λ k x l. elim (decLe ((2 * n + 1) * 2 ^ g) k) [
+        | yes q ↦ f .before k q l
+        | no q ↦ omega (arith, leaf-below t b g (2 * n) k (d .under .1 .0) (omega (arith, left-begins n g)) (omega arith))
+      ];
+    };
   }
 
-  pub up : (r : ℕ) → First t b chosen (h - 1) need r → First t b n h need r
-  up r f = elim (decLe need (node t b (2 * n))) [
-    | yes y ↦ from-left r (rw (le-leb need (node t b (2 * n)) y) at f)
-    | no y ↦ from-right r (omega (arith, y)) (rw (lt-leb need (node t b (2 * n)) (omega (arith, y))) at f)
-  ]
+pub level : {t : List ℕ} {b n h need : ℕ} → (h ≡ 0 → ⊥) → Descent t b n h need
+    → Level t b n h need (cond (leb need (node t b (2 * n))) (2 * n) (2 * n + 1)) (h - 1)
+level {h = zero} z d = absurd (z refl)
+level {t} {b} {n} {h = suc g} {need} z d = rw (sub-one (suc g)) (elim (decLe need (node t b (2 * n))) [
+  | yes y ↦ rw (le-leb need (node t b (2 * n)) y) (to-left d y)
+  | no y ↦ (let l : node t b (2 * n) < need = omega (arith, y) in rw (lt-leb need (node t b (2 * n)) l) (to-right d l))
+])
 
 -- The word of a chosen node's left child is the chosen word.
 pub word-below : (x : Bool) (b l r : ℕ) → cond x (b + 2 * l) (b + 2 * r) ≡ b + 2 * cond x l r
@@ -113,11 +92,11 @@ word-below true b l r = refl
 word-below false b l r = refl
 
 -- A leaf that holds enough is the one found below itself.
-pub bottom : (t : List ℕ) (b n need : ℕ) → need ≤ node t b n → First t b n 0 need n
-bottom t b n need l = record { low = omega arith; high = omega arith; enough = l; before = λ k x y. absurd (omega arith) }
+pub bottom : {t : List ℕ} {b n need : ℕ} → need ≤ node t b n → First t b n 0 need n
+bottom l = record { low = omega arith; high = omega arith; enough = l; before = λ k x y. absurd (omega arith) }
 
 -- The descent from the root.
-module _ (b : ℕ) (shape : Shape) (t : List ℕ) (tree : Tree b shape t) where
+module _ {b : ℕ} {shape : Shape} {t : List ℕ} (tree : Tree b shape t) where
   all-under : (h n : ℕ) → 1 ≤ n → (n + 1) * 2 ^ h ≤ 2 * shape .places → Under t b n h
   unfolding Under
   all-under zero n x y = tt
@@ -147,17 +126,17 @@ module _ (b : ℕ) (shape : Shape) (t : List ℕ) (tree : Tree b shape t) where
       let place = leaf - shape .places in
       let node-of : shape .places + place ≡ leaf = omega (arith, f .low, tree .power) in
       let inside : place < shape .places = omega (arith, f .high, f .low, tree .power) in
-      sym (lowest-found need (leaves t b (shape .places)) place (record {
+      meant need (leaves t b (shape .places)) (At place) (record {
         inside = omega (arith, count);
         enough = rw (leaf-node t b (shape .places) place inside, node-of) (f .enough);
         before = λ k l. let below : k < shape .places = omega arith in
             rw (leaf-node t b (shape .places) k below)
             (f .before (shape .places + k) (omega (arith, tree .power)) (omega arith));
-      }))
+      })
 
   pub root-lacking : (need : ℕ) → node t b 1 < need → Nothing ≡ firstFit need (leaves t b (shape .places))
   root-lacking need l =
-      sym (lacking-found need (leaves t b (shape .places)) (λ k x.
+      meant need (leaves t b (shape .places)) Nothing (λ k x.
       let inside : k < shape .places = omega (arith, count) in
       rw (leaf-node t b (shape .places) k inside)
-      (omega (arith, leaf-below t b (shape .height) 1 (shape .places + k) root-under (omega (arith, tree .power)) (omega (arith, tree .power))))))
+      (omega (arith, leaf-below t b (shape .height) 1 (shape .places + k) root-under (omega (arith, tree .power)) (omega (arith, tree .power)))))

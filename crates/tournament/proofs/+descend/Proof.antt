@@ -1,115 +1,102 @@
 -- `descend` meets its contract. The measure is the height.
 use mathlib.Core.Path.{_≡_, sym, ap, _∙_}
 use mathlib.Core.Bool.{Bool, cond}
-use Prim.Native.Nat.{ℕ, _+_, _*_, _<_}
+use Prim.Native.Nat.{ℕ, _+_, _-_, _*_, _<_}
 use native.Mathlib.Omega.{arith}
 use lib.Dec.{leb}
-use borrow.Fn.Kinds.{In}
+use borrow.Fn.Kinds.{In, Out}
 use borrow.Fn.PlainCycle.{Measures, is, falls, and}
-use Rattle.tournament.specs.Trees.{rowWords, node}
-use Rattle.tournament.proofs.Halves.{word-below, child-inside, down, up, bottom}
-use Rattle.tournament.proofs.descend.Reads as descend
-use Rattle.tournament.proofs.descend.Kinds as descend-kinds
-use Rattle.tournament.proofs.+descend.Lts-descend as descend-lts
-use Rattle.tournament.proofs.nearest.Reads as nearest-reads
+use Rattle.tournament.specs.Trees.{node}
+use Rattle.tournament.proofs.Halves.{Level, level, word-below, bottom}
+use Rattle.tournament.proofs.descend.Reads as reads
+use Rattle.tournament.proofs.descend.Kinds as kinds
+use Rattle.tournament.proofs.+descend.Lts-descend as lts
+use Rattle.tournament.proofs.nearest.Reads as nearest
 use Rattle.tournament.proofs.+descend.{statement}
 use Rattle.tournament.proofs.+descend.Tie.{close}
 
-abbrev μ-descend : Measures 1 descend-kinds.ps ℕ
+abbrev μ-descend : Measures 1 kinds.ps ℕ
 μ-descend κs a = a .1 .1 .1 .1 .0
 
-abbrev descend-at : ℕ → In 1 descend-kinds.ps
-descend-at t = and 1 descend-kinds.ps (is 1 descend-kinds.ps μ-descend t) descend.Pre
+-- A call at measure m may call itself below m.
+module _ (m : ℕ) where
+  abbrev begins : In 1 kinds.ps
+  begins = and 1 kinds.ps (is 1 kinds.ps μ-descend m) reads.Pre
 
-abbrev descend-below : ℕ → In 1 descend-kinds.ps
-descend-below t = and 1 descend-kinds.ps (falls 1 descend-kinds.ps _<_ μ-descend t) descend.Pre
+  abbrev calls : lts.Claims
+  calls = (nearest.Asked, nearest.Learnt, and 1 kinds.ps (falls 1 kinds.ps _<_ μ-descend m) reads.Pre, reads.Post)
 
--- Where the height is not 0, the children are words of the row, and the word to look at is the left child.
-inside : (t : ℕ) (c : descend-lts.Else1 (nearest-reads.Asked, nearest-reads.Learnt, descend-below t, descend.Post) (descend-at t) descend.Post)
-    → c .before .args .base + (2 * c .before .args .n + 1) < rowWords
-inside t c = child-inside _ _ _ _ _ (c .if1 .left) (c .before .pre .1 .0)
+  -- A place of the code, or what is needed there, of such a call.
+  abbrev At : (lts.Claims → In 1 kinds.ps → Out 1 kinds.ps kinds.r → Type 0) → Type 0
+  At place = place calls begins reads.Post
 
--- Both are chosen by the one look: the child, and the word of its left child.
-abbrev start : (t : ℕ) → descend-lts.After-nearest2 (nearest-reads.Asked, nearest-reads.Learnt, descend-below t, descend.Post) (descend-at t) descend.Post → descend-lts.Start (nearest-reads.Asked, nearest-reads.Learnt, descend-below t, descend.Post) (descend-at t) descend.Post
-start t c = c .before .before .before .before
+  -- Whether the left child, which the look is at, holds enough; and the child chosen by it.
+  abbrev fits : At lts.Start → Bool
+  fits s = leb (s .args .need) (node (s .args .t .now) (s .args .base) (2 * s .args .n))
 
-abbrev fits : (t : ℕ) → descend-lts.After-nearest2 (nearest-reads.Asked, nearest-reads.Learnt, descend-below t, descend.Post) (descend-at t) descend.Post → Bool
-fits t c = leb (start t c .args .need) (node (start t c .args .t .now) (start t c .args .base) (2 * start t c .args .n))
+  abbrev chosen : At lts.Start → ℕ
+  chosen s = cond (fits s) (2 * s .args .n) (2 * s .args .n + 1)
 
-child : (t : ℕ) (c : descend-lts.After-nearest2 (nearest-reads.Asked, nearest-reads.Learnt, descend-below t, descend.Post) (descend-at t) descend.Post)
-    → c .before .nearest .result ≡ cond (fits t c) (2 * start t c .args .n) (2 * start t c .args .n + 1)
-child t c = rw (start t c .pre .1 .1) at (c .before .nearest .ensures)
+  -- Where the height is not 0.
+  one-level : (c : At lts.Else1) → Level (c .before .args .t .now) (c .before .args .base) (c .before .args .n) (c .before .args .height)
+      (c .before .args .need) (chosen (c .before)) (c .before .args .height - 1)
+  one-level c = level (c .if1 .left) (c .before .pre .1 .0)
 
-next : (t : ℕ) (c : descend-lts.After-nearest2 (nearest-reads.Asked, nearest-reads.Learnt, descend-below t, descend.Post) (descend-at t) descend.Post) → c .nearest2 .result ≡ start t c .args .base + 2 * c .before .nearest .result
-next t c =
-    rw (start t c .pre .1 .1) at (c .nearest2 .ensures) ∙ word-below (fits t c) _ _ _
-    ∙ ap (λ (x : ℕ). start t c .args .base + 2 * x) (sym (child t c))
+  abbrev begun : At lts.After-nearest2 → At lts.Start
+  begun c = c .before .before .before .before
 
-descend-returns : (t : ℕ) → descend-lts.Need-returns (nearest-reads.Asked, nearest-reads.Learnt, descend-below t, descend.Post) (descend-at t) descend.Post
-descend-returns t c = rw (c .if1 .taken) (bottom _ _ _ _ (c .before .pre .1 .0 .enough))
+  child : (c : At lts.After-nearest2) → c .before .nearest .result ≡ chosen (begun c)
+  child c = rw (begun c .pre .1 .1) at (c .before .nearest .ensures)
 
-descend-mul-left : (t : ℕ) → descend-lts.Need-mul-left (nearest-reads.Asked, nearest-reads.Learnt, descend-below t, descend.Post) (descend-at t) descend.Post
-descend-mul-left t c = omega (arith, inside t c)
+  next : (c : At lts.After-nearest2) → c .nearest2 .result ≡ begun c .args .base + 2 * c .before .nearest .result
+  next c =
+      rw (begun c .pre .1 .1) at (c .nearest2 .ensures) ∙ word-below (fits (begun c)) _ _ _
+      ∙ ap (λ (x : ℕ). begun c .args .base + 2 * x) (sym (child c))
 
-descend-add-right : (t : ℕ) → descend-lts.Need-add-right (nearest-reads.Asked, nearest-reads.Learnt, descend-below t, descend.Post) (descend-at t) descend.Post
-descend-add-right t c = omega (arith, inside t c)
+  returns : At lts.Need-returns
+  returns c = rw (c .if1 .taken) (bottom (c .before .pre .1 .0 .enough))
 
-descend-mul-below-left : (t : ℕ) → descend-lts.Need-mul-below-left (nearest-reads.Asked, nearest-reads.Learnt, descend-below t, descend.Post) (descend-at t) descend.Post
-descend-mul-below-left t c = omega (arith, inside t c)
+  mul-left : At lts.Need-mul-left
+  mul-left c = omega (arith, one-level c .inside)
 
-descend-add-below-left : (t : ℕ) → descend-lts.Need-add-below-left (nearest-reads.Asked, nearest-reads.Learnt, descend-below t, descend.Post) (descend-at t) descend.Post
-descend-add-below-left t c = omega (arith, inside t c)
+  add-right : At lts.Need-add-right
+  add-right c = omega (arith, one-level c .inside)
 
-descend-mul-below-right : (t : ℕ) → descend-lts.Need-mul-below-right (nearest-reads.Asked, nearest-reads.Learnt, descend-below t, descend.Post) (descend-at t) descend.Post
-descend-mul-below-right t c = omega (arith, inside t c)
+  mul-below-left : At lts.Need-mul-below-left
+  mul-below-left c = omega (arith, one-level c .inside)
 
-descend-add-below-right : (t : ℕ) → descend-lts.Need-add-below-right (nearest-reads.Asked, nearest-reads.Learnt, descend-below t, descend.Post) (descend-at t) descend.Post
-descend-add-below-right t c = omega (arith, inside t c)
+  add-below-left : At lts.Need-add-below-left
+  add-below-left c = omega (arith, one-level c .inside)
 
-descend-mul-largest : (t : ℕ) → descend-lts.Need-mul-largest (nearest-reads.Asked, nearest-reads.Learnt, descend-below t, descend.Post) (descend-at t) descend.Post
-descend-mul-largest t c = omega (arith, inside t c, c .before .pre .1 .1)
+  mul-below-right : At lts.Need-mul-below-right
+  mul-below-right c = omega (arith, one-level c .inside)
 
-descend-element-copy-out-largest : (t : ℕ) → descend-lts.Need-element-copy-out-largest (nearest-reads.Asked, nearest-reads.Learnt, descend-below t, descend.Post) (descend-at t) descend.Post
-descend-element-copy-out-largest t c = omega (arith, inside t c, c .before .pre .1 .1)
+  add-below-right : At lts.Need-add-below-right
+  add-below-right c = omega (arith, one-level c .inside)
 
-descend-nearest-requires : (t : ℕ) → descend-lts.Need-nearest-requires (nearest-reads.Asked, nearest-reads.Learnt, descend-below t, descend.Post) (descend-at t) descend.Post
-descend-nearest-requires t c κs = tt
+  mul-largest : At lts.Need-mul-largest
+  mul-largest c = omega (arith, one-level c .inside, c .before .pre .1 .1)
 
-descend-nearest-requires-2 : (t : ℕ) → descend-lts.Need-nearest-requires-2 (nearest-reads.Asked, nearest-reads.Learnt, descend-below t, descend.Post) (descend-at t) descend.Post
-descend-nearest-requires-2 t c κs = tt
+  element-copy-out-largest : At lts.Need-element-copy-out-largest
+  element-copy-out-largest c = omega (arith, one-level c .inside, c .before .pre .1 .1)
 
-descend-sub-descend : (t : ℕ) → descend-lts.Need-sub-descend (nearest-reads.Asked, nearest-reads.Learnt, descend-below t, descend.Post) (descend-at t) descend.Post
-descend-sub-descend t c = omega arith
+  nearest-requires : At lts.Need-nearest-requires
+  nearest-requires c κs = tt
 
-descend-descend-requires : (t : ℕ) → descend-lts.Need-descend-requires (nearest-reads.Asked, nearest-reads.Learnt, descend-below t, descend.Post) (descend-at t) descend.Post
-descend-descend-requires t c κs =
-    let e = c .before .before .before in
-    (omega arith, (rw (child t c) (down _ _ _ _ _ (e .if1 .left) (e .before .pre .1 .0)), next t c))
+  nearest-requires-2 : At lts.Need-nearest-requires-2
+  nearest-requires-2 c κs = tt
 
-descend-returns-2 : (t : ℕ) → descend-lts.Need-returns-2 (nearest-reads.Asked, nearest-reads.Learnt, descend-below t, descend.Post) (descend-at t) descend.Post
-descend-returns-2 t c =
-    let e = c .before .before .before .before in
-    up _ _ _ _ _ (e .if1 .left) (e .before .pre .1 .0) _ (rw (child t (c .before)) at (c .descend .ensures))
+  sub-descend : At lts.Need-sub-descend
+  sub-descend c = omega arith
+
+  descend-requires : At lts.Need-descend-requires
+  descend-requires c κs = (omega arith, (rw (child c) (one-level (c .before .before .before) .down), next c))
+
+  returns-2 : At lts.Need-returns-2
+  returns-2 c = one-level (c .before .before .before .before) .up _ (rw (child (c .before)) at (c .descend .ensures))
 
 pub +descend-spec : {M : Type 1} → statement M
 +descend-spec =
-    close
-    μ-descend
-    λ t. descend-lts.spec
-    (nearest-reads.Asked, nearest-reads.Learnt, descend-below t, descend.Post)
-    (descend-at t)
-    descend.Post
-    (descend-returns t)
-    (descend-mul-left t)
-    (descend-add-right t)
-    (descend-mul-below-left t)
-    (descend-add-below-left t)
-    (descend-mul-below-right t)
-    (descend-add-below-right t)
-    (descend-mul-largest t)
-    (descend-element-copy-out-largest t)
-    (descend-nearest-requires t)
-    (descend-nearest-requires-2 t)
-    (descend-sub-descend t)
-    (descend-descend-requires t)
-    (descend-returns-2 t)
+    close μ-descend λ m. lts.spec (calls m) (begins m) reads.Post (returns m) (mul-left m) (add-right m) (mul-below-left m) (add-below-left m)
+    (mul-below-right m) (add-below-right m) (mul-largest m) (element-copy-out-largest m) (nearest-requires m) (nearest-requires-2 m) (sub-descend m)
+    (descend-requires m) (returns-2 m)

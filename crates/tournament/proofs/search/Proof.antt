@@ -13,22 +13,22 @@ mul-if1 : tie.Need-mul-if1
 mul-if1 c = search needs
 
 element-copy-out-if1 : tie.Need-element-copy-out-if1
-element-copy-out-if1 c = omega (arith, root-inside _ _ _ (c .pre .0))
+element-copy-out-if1 c = omega (arith, root-inside (c .pre .0))
 
 returns : tie.Need-returns
-returns c = root-lacking _ _ _ (c .before .before .pre .0) _ (omega arith)
+returns c = root-lacking (c .before .before .pre .0) _ (omega arith)
 
 add-look : tie.Need-add-look
-add-look c = omega (arith, root-inside _ _ _ (c .before .before .pre .0))
+add-look c = omega (arith, root-inside (c .before .before .pre .0))
 
 descend-requires : tie.Need-descend-requires
-descend-requires c κs = (root _ _ _ (c .before .before .pre .0) _ (omega arith), refl)
+descend-requires c κs = (root (c .before .before .pre .0) _ (omega arith), refl)
 
 sub-place : tie.Need-sub-place
 sub-place c = search needs
 
 returns-2 : tie.Need-returns-2
-returns-2 c = root-found _ _ _ (c .before .before .before .pre .0) _ _ (c .descend .ensures)
+returns-2 c = root-found (c .before .before .before .pre .0) _ _ (c .descend .ensures)
 
 pub search-spec : {M : Type 1} → statement M
 search-spec = tie.close (tie.spec add-if1 mul-if1 element-copy-out-if1 returns add-look descend-requires sub-place returns-2)
