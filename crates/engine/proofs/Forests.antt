@@ -10,8 +10,8 @@ use lib.Seq.{getD-set-same, getD-set-other}
 use borrow.Author.Tests.{eq-eqb, ne-eqb}
 use Rattle.tournament.specs.declared.Shape.{Shape}
 use Rattle.tournament.specs.Trees.{leaves}
-use Rattle.tournament.specs.Stored.{Stored}
 use Rattle.tournament.proofs.Leaves.{leaf-node, leaves-length}
+use Rattle.climb.specs.Stored.{Stored}
 use Rattle.engine.specs.Store.{shownAt, Forest}
 use Rattle.engine.specs.Shown.{Shown}
 

@@ -114,9 +114,9 @@ fn show(trees: &mut [u32; 5120], shape: Shape, class: usize, beside: bool, place
     ensures { λ _. ⌜ Shown shape (now (trees .entry)) class beside place free (now (trees .exit)) ⌝ }
 {
     let base = 1024 * class;
-    tournament::store(trees, base, shape, place, free);
+    climb::store(trees, base, shape, place, free);
     if beside {
-        tournament::store(trees, 0, shape, place, free);
+        climb::store(trees, 0, shape, place, free);
     }
 }
 
