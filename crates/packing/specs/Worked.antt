@@ -1,12 +1,12 @@
 -- "Worked shelves": the cases marked ● make one table, proved together by one theorem that computes over it.
 use Rattle.packing.specs.Prelude.{ℕ, _+_, _*_, _≡_, refl, Bool, true, List, [], _∷_, _++_, map, zipWith, flatten, replicate, total, greatest, any, _≤?_}
-use Rattle.packing.specs.Prelude.{Opening, SizeClass, A, B1, B2, X, Shelve, Entry, StreamResult, PlanResult, Overfull}
+use Rattle.packing.specs.Prelude.{Opening, SizeClass, A, B1, B2, X, Shelve, StreamResult, PlanResult, Overfull}
 use Rattle.packing.specs.Refusals.{word}
 use Rattle.packing.specs.SizeClasses.{sizeClass}
 use Rattle.packing.specs.Placing.{firstFit, put, outcome, placed}
 use Rattle.packing.specs.Streams.{widths, lookup, commands, read, verdict}
 use Rattle.packing.specs.Run.{outcomesFrom, outcomes, result, rowAtExit}
-use Rattle.packing.specs.Plans.{fault, entries, check}
+use Rattle.packing.specs.Plans.{planOf, limits, fault, entries, check}
 use Rattle.packing.specs.Compared.{numberOpened, used}
 
 -- What a case is about.
@@ -29,9 +29,6 @@ opening c stock = record { capacity = c; stock = stock; m = 6 }
 
 abbrev pub shelved : (capacity stock : ℕ) → List ℕ → Finding
 shelved c stock sizes = words (map word (outcomes (opening c stock) (map Shelve sizes)))
-
-abbrev pub planOf : (sizes bins : List ℕ) → List Entry
-planOf sizes bins = zipWith (λ s n. record { size = s; bin = n }) sizes bins
 
 abbrev pub planned : (capacity k : ℕ) (sizes bins : List ℕ) → Finding
 planned c k sizes bins = checked (check c k (planOf sizes bins) sizes)
@@ -79,5 +76,5 @@ table =
     []
 
 pub worked-shelves : map (λ c. c .0) table ≡ map (λ c. c .1) table
-unfolding table sizeClass total greatest any firstFit put outcome placed outcomesFrom zipWith flatten used fault entries check widths lookup commands read
+unfolding table sizeClass total greatest any firstFit put outcome placed outcomesFrom zipWith flatten used limits fault entries check widths lookup commands read
 worked-shelves = refl

@@ -8,24 +8,22 @@ use native.Mathlib.Omega.{arith}
 use lib.ListN.{length, take, getD, set, length-set}
 use lib.Seq.{take-all}
 use Rattle.packing.specs.declared.{Entry.Entry, PlanReason.PlanReason, PlanResult.PlanResult}
-use Rattle.packing.specs.Plans.{check}
-use Rattle.plan_rows.specs.Rows.{planOf}
-use Rattle.plan_rows.specs.Order.{limits}
+use Rattle.packing.specs.Plans.{planOf, limits, check}
 use Rattle.plan.specs.Columns.{rowsToLay, Wide, Laid, Answers}
-use Rattle.plan_rows.proofs.Limits.{kept as limits-kept}
-use Rattle.plan_rows.proofs.Whole.{check-refused}
+use Rattle.worst_case.proofs.PlanFits.{passed-within}
 
 module _ (capacity k rows : ℕ) (sizes bins items : List ℕ) (kept : PlanResult) (tested : kept ≡ limits capacity k rows (length items)) where
   pub enough-places : kept ≡ PlanResult.Passed → Wide sizes bins → (rows ≤ length sizes) × (rows ≤ length bins)
   enough-places passed w =
-      let h = limits-kept capacity k rows (length items) (sym tested ∙ passed) in
-      (omega (arith, h .short, w .sizes-wide), omega (arith, h .short, w .bins-wide))
+      let h = passed-within capacity k rows (length items) (sym tested ∙ passed) in
+      (omega (arith, h .rows-good, w .sizes-wide), omega (arith, h .rows-good, w .bins-wide))
 
   pub columns-checked : (r : PlanResult) → kept ≡ PlanResult.Passed → r ≡ check capacity k (planOf (take rows sizes) (take rows bins)) items → Answers capacity k rows items sizes bins r
   columns-checked r passed e plan l = e ∙ ap (λ p. check capacity k p items) (l .in-place (sym tested ∙ passed))
 
   pub columns-refused : (reason : PlanReason) (place : ℕ) → kept ≡ PlanResult.Refused reason place → Answers capacity k rows items sizes bins (PlanResult.Refused reason place)
-  columns-refused reason place refused plan l = sym (check-refused capacity k plan items reason place (rw (l .all-rows) (sym tested ∙ refused)))
+  unfolding check
+  columns-refused reason place refused plan l = rw (l .all-rows, ← tested, refused)
 
 abbrev pub blank : Entry
 blank = record { size = 0; bin = 0 }
@@ -68,7 +66,7 @@ module _ (capacity k : ℕ) (plan : List Entry) (items : List ℕ) (laid : ℕ) 
   laid-within = by-limits (limits capacity k (length plan) (length items)) refl counted
     where
       by-limits : (r : PlanResult) → limits capacity k (length plan) (length items) ≡ r → laid ≡ rowsToLay (length plan) r → (laid ≤ length plan) × (laid ≤ 4_096)
-      by-limits PlanResult.Passed e f = let h = limits-kept capacity k (length plan) (length items) e in (omega arith, omega (arith, h .short))
+      by-limits PlanResult.Passed e f = let h = passed-within capacity k (length plan) (length items) e in (omega arith, omega (arith, h .rows-good))
       by-limits (PlanResult.Refused reason place) e f = (omega arith, omega arith)
 
   pub laid-all : (i : ℕ) (sizes bins : List ℕ) → i ≡ laid → LaidTo plan i sizes bins → Laid capacity k (length plan) items sizes bins plan

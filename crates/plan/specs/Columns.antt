@@ -5,9 +5,7 @@ use Prim.Native.Nat.{ℕ}
 use lib.ListN.{length, take}
 use Rattle.packing.specs.declared.{Entry.Entry, PlanResult.PlanResult}
 use Rattle.packing.specs.Limits.{mostRows}
-use Rattle.packing.specs.Plans.{check}
-use Rattle.plan_rows.specs.Rows.{planOf}
-use Rattle.plan_rows.specs.Order.{limits}
+use Rattle.packing.specs.Plans.{planOf, limits, check}
 
 -- Nothing is laid where the limits' test refuses.
 abbrev pub rowsToLay : (rows : ℕ) → PlanResult → ℕ

@@ -4,16 +4,15 @@ use packing::PlanResult;
 ghost use mathlib.Core.Path.{_≡_};
 ghost use lib.ListN.{take};
 ghost use Rattle.packing.specs.Refusals.{planGives};
-ghost use Rattle.packing.specs.Plans.{check};
+ghost use Rattle.packing.specs.Plans.{limits, check};
 ghost use Rattle.worst_case.specs.PlanFits.{Exact};
-ghost use Rattle.plan_rows.specs.Order.{limits};
 ghost use Rattle.plan.specs.Columns.{rowsToLay, Wide, Answers};
 
 // How many entries are laid in columns: all of them, or none where the limits refuse.
 fn rows_to_lay(capacity: u32, k: u32, rows: usize, items: usize) -> usize
     ensures { λ r. ⌜ r ≡ rowsToLay rows (limits capacity k rows items) ⌝ }
 {
-    let kept = plan_rows::check_limits(capacity, k, rows, items);
+    let kept = plan_limits::check_limits(capacity, k, rows, items);
     let PlanResult::Passed = kept else {
         return 0;
     };
@@ -32,7 +31,7 @@ fn check_columns(
     requires { ⌜ Wide (now sizes) (now bins) ⌝ }
     ensures { λ r. ⌜ Answers capacity k rows (now (items .entry)) (now (sizes .entry)) (now (bins .entry)) r ⌝ }
 {
-    let kept = plan_rows::check_limits(capacity, k, rows, items.len());
+    let kept = plan_limits::check_limits(capacity, k, rows, items.len());
     match kept {
         PlanResult::Passed => plan_rows::check_rows(
             &sizes[..rows],
@@ -77,6 +76,6 @@ pub fn check_held_plan(plan: HeldPlan, items: &[u32], capacity: u32, k: u32) -> 
     ensures exact { λ r. ⌜ Exact capacity k (take (plan .len) (plan .entries)) (now (items .entry)) r ⌝ }
 {
     let entries = plan.entries;
-    let len = plan_rows::shorter(plan.len, 4097);
+    let len = plan_limits::shorter(plan.len, 4097);
     check_plan(&entries[..len], items, capacity, k)
 }

@@ -1,100 +1,144 @@
--- The walk over the entries: what is still to come, with the entries that the loads stand for before it, is what the whole plan comes to.
+-- The walk over the entries. What is found so far, and then what is still to come with the entries that the loads stand for before it, is what the
+-- whole check comes to. Of any plan: the core walks two rows, and the checker over entries the entries.
 use mathlib.Core.Path.{_≡_, refl, sym, ap, _∙_}
 use mathlib.Core.Option.{Option, some, none}
-use mathlib.Core.List.{List, [], _∷_}
-use Prim.Native.Nat.{ℕ, zero, suc, _+_, _≤_, _<_}
+use mathlib.Core.List.{List, [], _∷_, zipWith}
+use Prim.Native.Nat.{ℕ, zero, suc, min, _+_, _≤_, _<_}
 use native.Mathlib.Numerals.{add-one}
 use native.Mathlib.Omega.{arith}
 use lib.ListN.{length, getD, drop, drop-of-length-le, replicate, length-replicate}
 use lib.Seq.{drop-cons}
 use Rattle.packing.specs.declared.{Entry.Entry, PlanReason.PlanReason, PlanResult.PlanResult}
 use Rattle.packing.specs.Prelude.{total}
-use Rattle.packing.specs.Plans.{fault, entries}
-use Rattle.plan_rows.specs.declared.EntryResult.{EntryResult}
-use Rattle.plan_rows.specs.declared.EntryResult.the-variants.{Sound, Faulty}
-use Rattle.plan_rows.specs.Rows.{planOf}
-use Rattle.plan_rows.specs.Order.{Measured}
-use Rattle.plan_rows.specs.Loads.{Room, Represents, finding, Checked}
-use Rattle.plan_rows.proofs.Zipped.{entryAt, plan-length, plan-drop}
+use Rattle.packing.specs.Plans.{planOf, _andThen_, limits, fault, entries, check}
+use Rattle.packing.proofs.Limits.{within-limits}
+use Rattle.worst_case.proofs.PlanFits.{passed-within}
+use Rattle.plan_rows.specs.Loads.{LoadsKept, LoadsOf, Checkable, finding, Checked}
 
-module _ (capacity k : ℕ) (before : List Entry) (e : Entry) (s : ℕ) (es : List Entry) (ss : List ℕ) where
-  at-faulty : (reason : PlanReason) → Faulty reason ≡ finding (fault capacity k before e s) → entries capacity k before (e ∷ es) (s ∷ ss) ≡ PlanResult.Refused reason (suc (length before))
-  unfolding entries
-  at-faulty reason q = by-fault (fault capacity k before e s) refl q
-    where
-      by-fault : (f : Option PlanReason) → fault capacity k before e s ≡ f → Faulty reason ≡ finding f → entries capacity k before (e ∷ es) (s ∷ ss) ≡ PlanResult.Refused reason (suc (length before))
-      by-fault none p q = let z : _≡_ {A = ℕ} 0 1 = cc in absurd (omega arith)
-      by-fault (some other) p q =
-          let same : other ≡ reason = cc in
-          rw (p, entries, same)
+abbrev pub blank : Entry
+blank = record { size = 0; bin = 0 }
 
-  at-sound : Sound ≡ finding (fault capacity k before e s) → entries capacity k before (e ∷ es) (s ∷ ss) ≡ entries capacity k (e ∷ before) es ss
-  unfolding entries
-  at-sound q = by-fault (fault capacity k before e s) refl q
-    where
-      by-fault : (f : Option PlanReason) → fault capacity k before e s ≡ f → Sound ≡ finding f → entries capacity k before (e ∷ es) (s ∷ ss) ≡ entries capacity k (e ∷ before) es ss
-      by-fault none p q = rw (p, entries)
-      by-fault (some other) p q = let z : _≡_ {A = ℕ} 0 1 = cc in absurd (omega arith)
-
--- The walk has passed i entries.
-pub record Going (capacity k : ℕ) (sizes bins items loads : List ℕ) (i : ℕ) : Type 0 where
-  pub before : List Entry
-  pub room : Room capacity k loads
-  pub represents : Represents loads before
-  pub passed : i ≤ length items
+-- The entries before place i + 1, where nothing has been refused.
+pub record Walked (capacity k : ℕ) (plan : List Entry) (items loads : List ℕ) (i : ℕ) (before : List Entry) : Type 0 where
+  pub limited : limits capacity k (length plan) (length items) ≡ PlanResult.Passed
+  pub kept : LoadsKept capacity k loads
+  pub stands : LoadsOf loads before
   pub places : length before ≡ i
-  pub to-come : entries capacity k before (drop i (planOf sizes bins)) (drop i items) ≡ entries capacity k [] (planOf sizes bins) items
+
+pub record Going (capacity k : ℕ) (plan : List Entry) (items loads : List ℕ) (i : ℕ) (found : PlanResult) : Type 0 where
+  pub before : List Entry
+  pub walked : found ≡ PlanResult.Passed → Walked capacity k plan items loads i before
+  pub to-come : (found andThen entries capacity k before (drop i plan) (drop i items)) ≡ check capacity k plan items
 
 zeros : (n i : ℕ) → _≡_ {A = ℕ} (getD (replicate n 0) i 0) 0
 zeros zero i = refl
 zeros (suc n) zero = refl
 zeros (suc n) (suc i) = zeros n i
 
-module _ (capacity k : ℕ) (sizes bins items : List ℕ) (m : Measured capacity k sizes bins items) where
-  pub going-start : (n : ℕ) → n ≡ 4_097 → Going capacity k sizes bins items (replicate n 0) 0
-  unfolding total
-  going-start n q = record {
-    before = [];
-    room = record {
-      capacity-most = m .capacity-most;
-      k-most = m .k-most;
-      places = length-replicate n 0 ∙ q;
-      not-overfull = λ j. omega (arith, zeros n j);
-    };
-    represents = λ j l. zeros n j;
-    passed = omega arith;
-    places = refl;
-    to-come = refl;
-  }
+module _ (capacity k : ℕ) where
+  -- the first of the entries to come
+  one-entry : (before : List Entry) (e : Entry) (es : List Entry) (s : ℕ) (ss : List ℕ) (i : ℕ) → length before ≡ i
+      → (finding i (fault capacity k before e s) andThen entries capacity k (e ∷ before) es ss) ≡ entries capacity k before (e ∷ es) (s ∷ ss)
+  unfolding entries
+  one-entry before e es s ss i q = by-fault (fault capacity k before e s) refl
+    where
+      by-fault : (f : Option PlanReason) → fault capacity k before e s ≡ f
+          → (finding i f andThen entries capacity k (e ∷ before) es ss) ≡ entries capacity k before (e ∷ es) (s ∷ ss)
+      by-fault none p = rw (p, entries)
+      by-fault (some reason) p = rw (p, entries, q, add-one)
 
-  module _ (loads : List ℕ) (i : ℕ) (g : Going capacity k sizes bins items loads i) where
-    module _ (h : i < length items) (found : EntryResult) (exit : List ℕ) (d : Checked capacity k loads (entryAt sizes bins i) (getD items i 0) found exit) where
-      abbrev here : Entry
-      here = entryAt sizes bins i
+  module _ (plan : List Entry) (items : List ℕ) where
+    pub going-start : (n : ℕ) → n ≡ 4_097 → Going capacity k plan items (replicate n 0) 0 (limits capacity k (length plan) (length items))
+    unfolding total check
+    going-start n q = record { before = []; walked = start; to-come = refl }
+      where
+        start : limits capacity k (length plan) (length items) ≡ PlanResult.Passed → Walked capacity k plan items (replicate n 0) 0 []
+        start passed =
+            let w = passed-within capacity k (length plan) (length items) passed in
+            record {
+              limited = passed;
+              kept = record {
+                capacity-most = within-limits 1 16_777_216 capacity (w .capacity-good) .1;
+                k-most = w .k-good;
+                places = length-replicate n 0 ∙ q;
+                not-overfull = λ j. omega (arith, zeros n j);
+              };
+              stands = λ j l. zeros n j;
+              places = refl;
+            }
 
-      cut : drop i (planOf sizes bins) ≡ here ∷ drop (suc i) (planOf sizes bins)
-      cut = plan-drop sizes bins i (omega (arith, m .one-length)) (omega (arith, m .one-length))
+    module _ (loads : List ℕ) (i : ℕ) (found : PlanResult) (g : Going capacity k plan items loads i found) where
+      module _ (passed : found ≡ PlanResult.Passed) (h : i < length plan) where
+        w : Walked capacity k plan items loads i (g .before)
+        w = g .walked passed
 
-      now-here : entries capacity k (g .before) (here ∷ drop (suc i) (planOf sizes bins)) (getD items i 0 ∷ drop (suc i) items) ≡ entries capacity k [] (planOf sizes bins) items
-      now-here = rw (cut, drop-cons items i 0 h) at (g .to-come)
+        in-items : i < length items
+        in-items = omega (arith, passed-within capacity k (length plan) (length items) (w .limited) .one-length)
 
-      pub going-refused : (reason : PlanReason) → found ≡ Faulty reason → PlanResult.Refused reason (i + 1) ≡ entries capacity k [] (planOf sizes bins) items
-      going-refused reason q =
-          let place : i + 1 ≡ suc (length (g .before)) = omega (arith, g .places) in
-          ap (PlanResult.Refused reason) place
-          ∙ sym (at-faulty capacity k (g .before) here (getD items i 0) (drop (suc i) (planOf sizes bins)) (drop (suc i) items) reason (sym q ∙ d .answered (g .before) (g .represents)))
-          ∙ now-here
+        pub going-checkable : Checkable capacity k loads items i
+        going-checkable = record { kept = w .kept; in-items = in-items }
 
-      pub going-next : found ≡ Sound → Going capacity k sizes bins items exit (i + 1)
-      going-next q = record {
-        before = here ∷ g .before;
-        room = d .room;
-        represents = d .added q (g .before) (g .represents);
-        passed = omega arith;
-        places = rw add-one (ap suc (g .places));
-        to-come = rw add-one (sym (at-sound capacity k (g .before) here (getD items i 0) (drop (suc i) (planOf sizes bins)) (drop (suc i) items) (sym q ∙ d .answered (g .before) (g .represents))) ∙ now-here);
-      }
+        pub going-next : (e : Entry) → getD plan i blank ≡ e → (answer : PlanResult) (exit : List ℕ) → Checked capacity k loads e items i answer exit
+            → Going capacity k plan items exit (i + 1) answer
+        going-next e here answer exit d = record {
+          before = e ∷ g .before;
+          walked = λ q.
+              record { limited = w .limited; kept = d .kept; stands = d .added q (g .before) (w .stands); places = rw add-one (ap suc (w .places)) };
+          to-come = rw (add-one, d .answered (g .before) (w .stands)) (one-entry (g .before) e _ _ _ i (w .places) ∙ now-here);
+        }
+          where
+            now-here : entries capacity k (g .before) (e ∷ drop (suc i) plan) (getD items i 0 ∷ drop (suc i) items) ≡ check capacity k plan items
+            now-here = rw (passed, drop-cons plan i blank h, here, drop-cons items i 0 in-items) at (g .to-come)
 
-    pub going-passed : length items ≤ i → PlanResult.Passed ≡ entries capacity k [] (planOf sizes bins) items
-    unfolding entries
-    going-passed h = (rw (drop-of-length-le (planOf sizes bins) {i = i} (omega (arith, plan-length sizes bins, m .one-length))) at (g .to-come))
+      -- it ends where something is refused, and where no entry is left
+      pub going-refused : (reason : PlanReason) (place : ℕ) → found ≡ PlanResult.Refused reason place → found ≡ check capacity k plan items
+      going-refused reason place q = q ∙ (rw q at (g .to-come))
+
+      pub going-passed : found ≡ PlanResult.Passed → length plan ≤ i → found ≡ check capacity k plan items
+      unfolding entries
+      going-passed q h = q ∙ (rw (q, drop-of-length-le plan {i = i} h) at (g .to-come))
+
+-- The plan of two rows, place by place.
+pub plan-length : (sizes bins : List ℕ) → length (planOf sizes bins) ≡ min (length sizes) (length bins)
+unfolding zipWith
+plan-length [] bins = omega arith
+plan-length (s ∷ ss) [] = omega arith
+plan-length (s ∷ ss) (b ∷ bs) = omega (arith, plan-length ss bs)
+
+abbrev entryAt : (sizes bins : List ℕ) (i : ℕ) → Entry
+entryAt sizes bins i = record { size = getD sizes i 0; bin = getD bins i 0 }
+
+plan-at : (sizes bins : List ℕ) (i : ℕ) → i < length sizes → i < length bins → getD (planOf sizes bins) i blank ≡ entryAt sizes bins i
+unfolding zipWith
+plan-at [] bins i h g = absurd (omega arith)
+plan-at (s ∷ ss) [] i h g = absurd (omega arith)
+plan-at (s ∷ ss) (b ∷ bs) zero h g = refl
+plan-at (s ∷ ss) (b ∷ bs) (suc i) h g = plan-at ss bs i (omega arith) (omega arith)
+
+-- The walk over two rows within the limits.
+module _ (capacity k : ℕ) (sizes bins items : List ℕ) (limited : limits capacity k (min (length sizes) (length bins)) (length items) ≡ PlanResult.Passed) where
+  one-length : min (length sizes) (length bins) ≡ length items
+  one-length = passed-within capacity k (min (length sizes) (length bins)) (length items) limited .one-length
+
+  pub rows-start : Going capacity k (planOf sizes bins) items (replicate 4_097 0) 0 PlanResult.Passed
+  rows-start =
+      let passed : limits capacity k (length (planOf sizes bins)) (length items) ≡ PlanResult.Passed = rw (plan-length sizes bins) limited in
+      rw passed at (going-start capacity k (planOf sizes bins) items 4_097 refl)
+
+  module _ (loads : List ℕ) (i : ℕ) (g : Going capacity k (planOf sizes bins) items loads i PlanResult.Passed) where
+    module _ (h : i < length items) where
+      pub rows-inside : (i < length sizes) × (i < length bins)
+      rows-inside = (omega (arith, one-length), omega (arith, one-length))
+
+      in-plan : i < length (planOf sizes bins)
+      in-plan = omega (arith, one-length, plan-length sizes bins)
+
+      pub rows-checkable : Checkable capacity k loads items i
+      rows-checkable = going-checkable capacity k (planOf sizes bins) items loads i PlanResult.Passed g refl in-plan
+
+      pub rows-next : (answer : PlanResult) (exit : List ℕ) → Checked capacity k loads (entryAt sizes bins i) items i answer exit
+          → Going capacity k (planOf sizes bins) items exit (i + 1) answer
+      rows-next = going-next capacity k (planOf sizes bins) items loads i PlanResult.Passed g refl in-plan _ (plan-at sizes bins i (rows-inside .0) (rows-inside .1))
+
+    pub rows-passed : length items ≤ i → PlanResult.Passed ≡ check capacity k (planOf sizes bins) items
+    rows-passed h = going-passed capacity k (planOf sizes bins) items loads i PlanResult.Passed g refl (omega (arith, one-length, plan-length sizes bins))

@@ -1,75 +1,75 @@
 -- What the step at one entry leaves, at a fault and at none: the loads at exit stand for one entry more only where it is sound.
 use mathlib.Core.Path.{_≡_, refl, sym, ap, _∙_}
-use mathlib.Core.Bool.{true}
-use mathlib.Core.Option.{some}
+use mathlib.Core.Option.{some, none}
 use mathlib.Core.List.{List, _∷_}
 use Prim.Native.Nat.{ℕ, _+_, _≤_, _<_}
 use native.Mathlib.Decide.{ℕ-discrete}
 use native.Mathlib.Omega.{arith}
+use borrow.Author.Tests.{eq-eqb, ne-eqb}
 use lib.ListN.{length, getD, set, length-set}
 use lib.Seq.{getD-set-same, getD-set-other}
-use Rattle.packing.specs.declared.{Entry.Entry, PlanReason.PlanReason}
-use Rattle.packing.specs.declared.PlanReason.the-variants.{Overfull}
-use Rattle.packing.specs.Limits.{within, mostRows}
+use Rattle.packing.specs.declared.{Entry.Entry, PlanReason.PlanReason, PlanResult.PlanResult}
+use Rattle.packing.specs.Prelude.{total}
+use Rattle.packing.specs.Limits.{mostRows}
 use Rattle.packing.specs.Plans.{onBin, fault}
-use Rattle.packing.proofs.Limits.{within-limits}
-use Rattle.plan_rows.specs.declared.EntryResult.the-variants.{Sound, Faulty}
-use Rattle.plan_rows.specs.Loads.{Room, Represents, finding, Checked}
-use Rattle.plan_rows.proofs.Faults.{on-own, on-other, overfull, sound}
+use Rattle.plan_rows.specs.Loads.{LoadsKept, LoadsOf, finding, Checked}
 
-module _ (capacity k : ℕ) (loads : List ℕ) (e : Entry) (s : ℕ) (room : Room capacity k loads) where
-  at-fault : (reason : PlanReason) → ((before : List Entry) → Represents loads before → fault capacity k before e s ≡ some reason) → Checked capacity k loads e s (Faulty reason) loads
-  at-fault reason f = record {
-    room = room;
-    answered = λ before r. sym (ap finding (f before r));
+-- An entry counts for its own bin and for no other.
+on-own : (e : Entry) (before : List Entry) → onBin (e .bin) (e ∷ before) ≡ e .size + onBin (e .bin) before
+unfolding total
+on-own e before = simp (eq-eqb (e .bin) (e .bin) refl)
+
+on-other : (n : ℕ) (e : Entry) (before : List Entry) → (e .bin ≡ n → ⊥) → onBin n (e ∷ before) ≡ onBin n before
+unfolding total
+on-other n e before h = simp (ne-eqb (e .bin) n h) (omega arith)
+
+-- The load of the entry's bin with the entry.
+pub summed : (loads : List ℕ) (e : Entry) → e .bin ≤ mostRows → (before : List Entry) → LoadsOf loads before
+    → onBin (e .bin) (e ∷ before) ≡ getD loads (e .bin) 0 + e .size
+summed loads e low before r = omega (arith, on-own e before, r (e .bin) low)
+
+module _ (capacity k : ℕ) (loads : List ℕ) (e : Entry) (items : List ℕ) (i : ℕ) (kept : LoadsKept capacity k loads) where
+  pub faulty : (reason : PlanReason) → ((before : List Entry) → LoadsOf loads before → fault capacity k before e (getD items i 0) ≡ some reason)
+      → Checked capacity k loads e items i (PlanResult.Refused reason (i + 1)) loads
+  faulty reason f = record {
+    kept = kept;
+    answered = λ before r. sym (ap (finding i) (f before r));
     added = λ q. let z : _≡_ {A = ℕ} 0 1 = cc in absurd (omega arith);
-    refused = λ other q. refl;
+    refused = λ other place q. refl;
   }
 
-  pub faulty : (reason : PlanReason) → ((before : List Entry) → fault capacity k before e s ≡ some reason) → Checked capacity k loads e s (Faulty reason) loads
-  faulty reason f = at-fault reason (λ before r. f before)
-
-  module _ (same : e .size ≡ s) (fits : within 1 capacity (e .size) ≡ true) (low : within 1 k (e .bin) ≡ true) where
-    bin-most : e .bin ≤ mostRows
-    bin-most = omega (arith, within-limits 1 k (e .bin) low, room .k-most)
-
-    -- the load of the entry's bin with the entry
+  module _ (low : e .bin ≤ mostRows) (fits : getD loads (e .bin) 0 + e .size ≤ capacity) where
     abbrev sum : ℕ
     sum = getD loads (e .bin) 0 + e .size
-
-    summed : (before : List Entry) → Represents loads before → onBin (e .bin) (e ∷ before) ≡ sum
-    summed before r = omega (arith, on-own e before, r (e .bin) bin-most)
-
-    pub too-much : capacity < sum → Checked capacity k loads e s (Faulty Overfull) loads
-    too-much h = at-fault Overfull (λ before r. overfull capacity k e s same fits low before (omega (arith, summed before r)))
 
     abbrev exit : List ℕ
     exit = set loads (e .bin) sum
 
     inside : e .bin < length loads
-    inside = omega (arith, room .places, bin-most)
+    inside = omega (arith, kept .places, low)
 
-    pub taken : sum ≤ capacity → Checked capacity k loads e s Sound exit
-    taken h = record {
-      room = record {
-        capacity-most = room .capacity-most;
-        k-most = room .k-most;
-        places = length-set loads (e .bin) sum ∙ room .places;
-        not-overfull = kept;
+    none-over : (n : ℕ) → getD exit n 0 ≤ capacity
+    none-over n = elim (ℕ-discrete n (e .bin)) [
+      | yes q ↦ rw (q, getD-set-same loads (e .bin) sum 0 inside) fits
+      | no q ↦ rw (getD-set-other loads (e .bin) n sum 0 q) (kept .not-overfull n)
+    ]
+
+    stands : (before : List Entry) → LoadsOf loads before → LoadsOf exit (e ∷ before)
+    stands before r n l = elim (ℕ-discrete n (e .bin)) [
+      | yes q ↦ rw (q, getD-set-same loads (e .bin) sum 0 inside) (sym (summed loads e low before r))
+      | no q ↦ getD-set-other loads (e .bin) n sum 0 q ∙ r n l ∙ sym (on-other n e before (λ p. q (sym p)))
+    ]
+
+    pub sound : ((before : List Entry) → LoadsOf loads before → fault capacity k before e (getD items i 0) ≡ none)
+        → Checked capacity k loads e items i PlanResult.Passed exit
+    sound f = record {
+      kept = record {
+        capacity-most = kept .capacity-most;
+        k-most = kept .k-most;
+        places = length-set loads (e .bin) sum ∙ kept .places;
+        not-overfull = none-over;
       };
-      answered = λ before r. sym (ap finding (sound capacity k e s same fits low before (omega (arith, summed before r))));
-      added = λ q before r n l. stands before r n l;
-      refused = λ reason q. let z : _≡_ {A = ℕ} 0 1 = cc in absurd (omega arith);
+      answered = λ before r. sym (ap (finding i) (f before r));
+      added = λ q. stands;
+      refused = λ reason place q. let z : _≡_ {A = ℕ} 0 1 = cc in absurd (omega arith);
     }
-      where
-        kept : (n : ℕ) → getD exit n 0 ≤ capacity
-        kept n = elim (ℕ-discrete n (e .bin)) [
-          | yes q ↦ rw (q, getD-set-same loads (e .bin) sum 0 inside) h
-          | no q ↦ rw (getD-set-other loads (e .bin) n sum 0 q) (room .not-overfull n)
-        ]
-
-        stands : (before : List Entry) → Represents loads before → Represents exit (e ∷ before)
-        stands before r n l = elim (ℕ-discrete n (e .bin)) [
-          | yes q ↦ rw (q, getD-set-same loads (e .bin) sum 0 inside) (sym (summed before r))
-          | no q ↦ getD-set-other loads (e .bin) n sum 0 q ∙ r n l ∙ sym (on-other n e before (λ p. q (sym p)))
-        ]

@@ -64,10 +64,10 @@ use Rattle.plan.proofs.HeldPlan as R
 use Rattle.plan.proofs.HeldPlan.Laws as R′
 use Rattle.plan.proofs.Laying.{take-min}
 use Rattle.plan.proofs.Machine.{one, big-lit, says-both, first-clause}
-use Rattle.plan_rows.proofs.shorter as shorter
-use Rattle.plan_rows.proofs.shorter.Symbol as shorter-def
-use Rattle.plan_rows.proofs.shorter.Symbol.{name as #plan-rows·shorter}
-use Rattle.plan_rows.proofs.shorter.Met as shorter-thm
+use Rattle.plan_limits.proofs.shorter as shorter
+use Rattle.plan_limits.proofs.shorter.Symbol as shorter-def
+use Rattle.plan_limits.proofs.shorter.Symbol.{name as #plan-limits·shorter}
+use Rattle.plan_limits.proofs.shorter.Met as shorter-thm
 use Rattle.plan.proofs.check_plan as check-plan
 use Rattle.plan.proofs.check_plan.Symbol as check-plan-def
 use Rattle.plan.proofs.check_plan.Symbol.{name as #plan·check-plan}
@@ -230,7 +230,7 @@ module _ {M : Type 1} (𝓤 : URA M) (H : Heap 𝓤) (A : Atoms 𝓤) (W : Given
     same : (v : PlanResult) → v ≡ check cap k ys (now ms) → v ≡ check cap k (take (p .len) xs) (now ms)
     same v e = e ∙ ap (λ (es : List Entry). check cap k es (now ms)) (ap (λ (j : ℕ). take j xs) least ∙ take-min xs (p .len) 4097 long)
 
-  module _ (C : Calls 𝓤 H) (Λ : Loops 𝓤 H) (fm : FmC 𝓤 H (W .laws) C) (known-shorter : Triple 𝓤 (C #plan-rows·shorter) (Shorter 𝓤 H A mem run)) (known : Triple 𝓤 (C #plan·check-plan) (Check 𝓤 H A mem run)) where
+  module _ (C : Calls 𝓤 H) (Λ : Loops 𝓤 H) (fm : FmC 𝓤 H (W .laws) C) (known-shorter : Triple 𝓤 (C #plan-limits·shorter) (Shorter 𝓤 H A mem run)) (known : Triple 𝓤 (C #plan·check-plan) (Check 𝓤 H A mem run)) where
     walk : ent 𝓤 (onEntry 𝓤 H A held.signature (κ, tt) (q, tt) (p, (ms, (cap, (k, tt)))) at) (WpFn 𝓤 H C Λ code.function (mach ∷ mv ∷ vint w32 cap ∷ vint w32 k ∷ []) Post)
     walk =
         qed W ((‵ (flft κ q) ⊛ ‵ ftrue) ∷ ‵ (owns (R.the-row ∷ ShrSlice (named 0) κ u32 ∷ u32 ∷ u32 ∷ []) (p, (ms, (cap, (k, tt)))) at) ∷ []) ∵ enter ! C Λ code.function (mach ∷ mv ∷ vint w32 cap ∷ vint w32 k ∷ []) _ $
@@ -273,7 +273,7 @@ module _ {M : Type 1} (𝓤 : URA M) (H : Heap 𝓤) (A : Atoms 𝓤) (W : Given
         split ! $ keep ! (0 ∷ 3 ∷ 2 ∷ []) $ by ! (exits v u (same n least v e)))))))))))))))))))))
 
 module _ {M : Type 1} (𝓤 : URA M) (H : Heap 𝓤) (A : Atoms 𝓤) (W : Given 𝓤 H A) (mem : Memory → SProp 𝓤) (run : Routine → Fun 𝓤) where
-  held-walks : (C : Calls 𝓤 H) (Λ : Loops 𝓤 H) → FmC 𝓤 H (W .laws) C → Triple 𝓤 (C #plan-rows·shorter) (Shorter 𝓤 H A mem run) → Triple 𝓤 (C #plan·check-plan) (Check 𝓤 H A mem run) → Walks 𝓤 H A held.ended stayed (WpFn 𝓤 H C Λ code.function) (held.clauses 𝓤 H A mem run)
+  held-walks : (C : Calls 𝓤 H) (Λ : Loops 𝓤 H) → FmC 𝓤 H (W .laws) C → Triple 𝓤 (C #plan-limits·shorter) (Shorter 𝓤 H A mem run) → Triple 𝓤 (C #plan·check-plan) (Check 𝓤 H A mem run) → Walks 𝓤 H A held.ended stayed (WpFn 𝓤 H C Λ code.function) (held.clauses 𝓤 H A mem run)
   held-walks C Λ fm known-shorter known =
       walked 𝓤 H A held.ended stayed (held.clauses 𝓤 H A mem run) (WpFn 𝓤 H C Λ code.function) (λ κs. (LL.vals R.the-type R′.the-laws, (slice-vals, (uint-vals w32, (uint-vals w32, tt)))))
       (λ κs. (LL.tells R.the-type R′.the-laws, (shr-slice-tells (named 0) (κs .0) u32, (uint-tells w32, (uint-tells w32, tt)))))
@@ -281,7 +281,7 @@ module _ {M : Type 1} (𝓤 : URA M) (H : Heap 𝓤) (A : Atoms 𝓤) (W : Given
       (walk 𝓤 H A W mem run (κs .0) (qs .0) (a .0) (a .1 .0) (a .1 .1 .0) (a .1 .1 .1 .0) (are .0) (are .1 .0 .0 .1) (are .1 .1 .0 .1) (are .1 .1 .1 .0 .1) C Λ fm known-shorter known))
 
 held-meets : {M : Type 1} (𝓤 : URA M) (H : Heap 𝓤) (A : Atoms 𝓤) (W : Given 𝓤 H A) (mem : Memory → SProp 𝓤) (run : Routine → Fun 𝓤) (𝓣 : Tables 𝓤 H)
-    → Triple 𝓤 (𝓣 .C #plan-rows·shorter) (Shorter 𝓤 H A mem run) → Triple 𝓤 (𝓣 .C #plan·check-plan) (Check 𝓤 H A mem run) → Meets 𝓤 H A held.signature (WpFn 𝓤 H (𝓣 .C) (𝓣 .Λ) code.function) (held.spec 𝓤 H A mem run)
+    → Triple 𝓤 (𝓣 .C #plan-limits·shorter) (Shorter 𝓤 H A mem run) → Triple 𝓤 (𝓣 .C #plan·check-plan) (Check 𝓤 H A mem run) → Meets 𝓤 H A held.signature (WpFn 𝓤 H (𝓣 .C) (𝓣 .Λ) code.function) (held.spec 𝓤 H A mem run)
 held-meets 𝓤 H A W mem run 𝓣 known-shorter known =
     walk-meets 𝓤 H A held.ended stayed W
     (goes-none 𝓤 H A W 1 (λ _. R.the-row) yes (λ κs x f. refl), (goes-none-slice 𝓤 H A W 1 (0 ∷ []) tt (plain (λ _. u32)) yes, (goes-none 𝓤 H A W 1 (λ _. u32) yes (λ κs x f. refl), (goes-none 𝓤 H A W 1 (λ _. u32) yes (λ κs x f. refl), tt))))
@@ -293,5 +293,5 @@ check-held-plan-spec 𝓤 H 𝓜 𝓖 𝓡 =
     entered 𝓤 H (tripleOf 𝓤 H (𝓖 .A) held.signature (held.spec 𝓤 H (𝓖 .A) (𝓜 .mem) (𝓡 .run)))
     (tables 𝓤 H 𝓜 𝓡 code.env .C) (tables 𝓤 H 𝓜 𝓡 code.env .Λ) #plan·check-held-plan code.function (code.unfolded 𝓤 H 𝓜 𝓡)
     (held-meets 𝓤 H (𝓖 .A) (givenOf 𝓤 H 𝓜 𝓖) (𝓜 .mem) (𝓡 .run) (tablesOf 𝓤 H 𝓜 (tables 𝓤 H 𝓜 𝓡 code.env))
-    (cited 𝓤 H (Shorter 𝓤 H (𝓖 .A) (𝓜 .mem) (𝓡 .run)) 𝓜 𝓡 code.env #plan-rows·shorter shorter-def.routine code.calls-plan-rows·shorter (shorter-thm.met 𝓤 H 𝓜 𝓖 𝓡))
+    (cited 𝓤 H (Shorter 𝓤 H (𝓖 .A) (𝓜 .mem) (𝓡 .run)) 𝓜 𝓡 code.env #plan-limits·shorter shorter-def.routine code.calls-plan-limits·shorter (shorter-thm.met 𝓤 H 𝓜 𝓖 𝓡))
     (cited 𝓤 H (Check 𝓤 H (𝓖 .A) (𝓜 .mem) (𝓡 .run)) 𝓜 𝓡 code.env #plan·check-plan check-plan-def.routine code.calls-plan·check-plan (check-plan-thm.met 𝓤 H 𝓜 𝓖 𝓡)))

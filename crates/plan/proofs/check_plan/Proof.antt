@@ -45,7 +45,7 @@ use Rattle.packing.specs.declared.{Entry.Entry}
 use Rattle.packing.proofs.Entry as E
 use Rattle.packing.proofs.Entry.Laws as E′
 use Rattle.packing.proofs.PlanResult.Laws as D′
-use Rattle.plan_rows.specs.Order.{limits}
+use Rattle.packing.specs.Plans.{limits}
 use Rattle.plan.specs.Columns.{rowsToLay}
 use Rattle.plan.proofs.Laying.{laid-none}
 use Rattle.plan.proofs.rows_to_lay as rows

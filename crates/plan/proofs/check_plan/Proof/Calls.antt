@@ -26,7 +26,7 @@ use denote.Triple.Spec.{tripleOf}
 use denote.Triple.Walked.{says}
 use denote.Triple.Clauses.{ensured, lasts}
 use Rattle.packing.specs.declared.{PlanResult.PlanResult}
-use Rattle.plan_rows.specs.Order.{limits}
+use Rattle.packing.specs.Plans.{limits}
 use Rattle.plan.specs.Columns.{rowsToLay, Wide, Answers}
 use Rattle.plan.proofs.rows_to_lay as rows
 use Rattle.plan.proofs.check_columns as cols

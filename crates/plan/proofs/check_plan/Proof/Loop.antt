@@ -50,13 +50,12 @@ use denote.Triple.Clauses.{ensured}
 use denote.Exit.{yes}
 use Rattle.packing.specs.declared.{Entry.Entry, PlanResult.PlanResult}
 use Rattle.packing.specs.Refusals.{planGives}
-use Rattle.packing.specs.Plans.{check}
+use Rattle.packing.specs.Plans.{limits, check}
 use Rattle.worst_case.proofs.PlanFits.{exact-as}
 use Rattle.packing.proofs.Entry as E
 use Rattle.packing.proofs.Entry.Laws as E′
 use Rattle.packing.proofs.PlanResult as D
 use Rattle.packing.proofs.PlanResult.Laws as D′
-use Rattle.plan_rows.specs.Order.{limits}
 use Rattle.plan.specs.Columns.{rowsToLay, Answers}
 use Rattle.plan.proofs.Laying.{blank, LaidTo, laid-next, laid-within, laid-all}
 use Rattle.plan.proofs.check_columns as cols
