@@ -1,3 +1,6 @@
--- The laws that the walk rests on.
-pub mod Laying
-pub mod Machine
+-- What the walks by hand rest on.
+pub mod Logic
+pub mod Locals
+pub mod Calls
+pub mod Types
+pub mod Ends

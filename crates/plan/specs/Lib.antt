@@ -1,2 +1,2 @@
 -- What the contracts of the walk cite, beside the model and the core.
-pub mod Columns
+pub mod Ends

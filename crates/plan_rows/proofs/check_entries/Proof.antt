@@ -4,12 +4,12 @@ use borrow.Author.Needs.{needs}
 use lib.ListN.{length}
 use Rattle.packing.specs.declared.{PlanResult.PlanResult}
 use Rattle.packing.specs.Plans.{planOf}
-use Rattle.plan_rows.proofs.Going.{Going, going-refused, rows-start, rows-inside, rows-checkable, rows-next, rows-passed}
+use Rattle.plan_rows.proofs.Walking.{Walking, walk-refused, rows-start, rows-inside, rows-checkable, rows-next, rows-passed}
 use Rattle.plan_rows.proofs.check_entries.Statement.{statement}
 use Rattle.plan_rows.proofs.check_entries.Tie as tie
 
 abbrev Inv-loop : tie.InvT-loop
-Inv-loop sizes bins items capacity k loads₀ i₀ loads i = Going capacity k (planOf sizes bins) items loads i PlanResult.Passed
+Inv-loop sizes bins items capacity k loads₀ i₀ loads i = Walking capacity k (planOf sizes bins) items loads i PlanResult.Passed
 
 abbrev μ-loop : tie.MeasureT-loop
 μ-loop sizes bins items capacity k loads₀ i₀ loads i = length items - i
@@ -17,33 +17,29 @@ abbrev μ-loop : tie.MeasureT-loop
 loop-holds : tie.Need-loop-holds Inv-loop μ-loop
 loop-holds c = rows-start _ _ _ _ _ (c .before .before .before .pre)
 
-abbrev start : tie.In-loop Inv-loop μ-loop → tie.Start Inv-loop μ-loop
-start l = l .before .before .before .before .before
-
 shared-slice-read-size : tie.Need-shared-slice-read-size Inv-loop μ-loop
-shared-slice-read-size c = let l = c .before in rows-inside _ _ _ _ _ (start l .pre) _ _ (l .before .loop .inv) (l .loop-test .taken) .0
+shared-slice-read-size c = let l = c .before in rows-inside _ _ _ _ _ _ _ (l .before .loop .inv) (l .loop-test .taken) .0
 
 shared-slice-read-bin : tie.Need-shared-slice-read-bin Inv-loop μ-loop
-shared-slice-read-bin c = let l = c .before .before in rows-inside _ _ _ _ _ (start l .pre) _ _ (l .before .loop .inv) (l .loop-test .taken) .1
+shared-slice-read-bin c = let l = c .before .before in rows-inside _ _ _ _ _ _ _ (l .before .loop .inv) (l .loop-test .taken) .1
 
 check-entry-requires : tie.Need-check-entry-requires Inv-loop μ-loop
-check-entry-requires c κs = let l = c .before .before .before in rows-checkable _ _ _ _ _ (start l .pre) _ _ (l .before .loop .inv) (l .loop-test .taken)
+check-entry-requires c κs = let l = c .before .before .before in rows-checkable _ _ _ _ _ _ _ (l .before .loop .inv) (l .loop-test .taken)
 
 returns : tie.Need-returns Inv-loop μ-loop
 returns c =
     let d = c .before .before in
     let l = d .before .before .before .before in
-    let g = rows-next _ _ _ _ _ (start l .pre) _ _ (l .before .loop .inv) (l .loop-test .taken) _ _ (d .check-entry .ensures) in
-    going-refused _ _ _ _ _ _ _ g _ _ (c .enum-told2 .given .1)
+    walk-refused _ _ _ _ _ _ _ (rows-next _ _ _ _ _ _ _ (l .before .loop .inv) (l .loop-test .taken) _ _ (d .check-entry .ensures)) _ _ (c .enum-told2 .given .1)
 
 loop-again : tie.Need-loop-again Inv-loop μ-loop
 loop-again c =
     let d = c .before .before in
     let l = d .before .before .before .before in
-    rw (c .enum-told .given .1) at (rows-next _ _ _ _ _ (start l .pre) _ _ (l .before .loop .inv) (l .loop-test .taken) _ _ (d .check-entry .ensures))
+    rw (c .enum-told .given .1) at (rows-next _ _ _ _ _ _ _ (l .before .loop .inv) (l .loop-test .taken) _ _ (d .check-entry .ensures))
 
 returns-2 : tie.Need-returns-2 Inv-loop μ-loop
-returns-2 c = rows-passed _ _ _ _ _ (c .before .before .before .before .before .pre) _ _ (c .before .loop .inv) (c .loop-test .left)
+returns-2 c = rows-passed _ _ _ _ _ _ _ (c .before .loop .inv) (c .loop-test .left)
 
 pub check-entries-spec : {M : Type 1} → statement M
 check-entries-spec =

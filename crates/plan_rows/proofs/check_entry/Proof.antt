@@ -73,4 +73,5 @@ pub check-entry-spec : {M : Type 1} → statement M
 check-entry-spec =
     tie.close
     (tie.spec (λ c. search needs) (λ c. search needs) (λ c. search needs) returns (λ c κs. search needs) returns-2 (λ c κs. search needs) returns-3
-    (λ c. search needs) (λ c. search needs) (λ c. omega (arith, has-load c)) add-load returns-4 (λ c. search needs) (λ c. omega (arith, has-load (c .before .before))) returns-5)
+    (λ c. search needs) (λ c. search needs) (λ c. omega (arith, has-load c)) add-load returns-4
+    (λ c. search needs) (λ c. omega (arith, has-load (c .before .before))) returns-5)

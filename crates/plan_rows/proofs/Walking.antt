@@ -19,15 +19,15 @@ abbrev pub blank : Entry
 blank = record { size = 0; bin = 0 }
 
 -- The entries before place i + 1, where nothing has been refused.
-pub record Walked (capacity k : ℕ) (plan : List Entry) (items loads : List ℕ) (i : ℕ) (before : List Entry) : Type 0 where
+pub record SoFar (capacity k : ℕ) (plan : List Entry) (items loads : List ℕ) (i : ℕ) (before : List Entry) : Type 0 where
   pub limited : limits capacity k (length plan) (length items) ≡ PlanResult.Passed
   pub kept : LoadsKept capacity k loads
   pub stands : LoadsOf loads before
   pub places : length before ≡ i
 
-pub record Going (capacity k : ℕ) (plan : List Entry) (items loads : List ℕ) (i : ℕ) (found : PlanResult) : Type 0 where
+pub record Walking (capacity k : ℕ) (plan : List Entry) (items loads : List ℕ) (i : ℕ) (found : PlanResult) : Type 0 where
   pub before : List Entry
-  pub walked : found ≡ PlanResult.Passed → Walked capacity k plan items loads i before
+  pub so-far : found ≡ PlanResult.Passed → SoFar capacity k plan items loads i before
   pub to-come : (found andThen entries capacity k before (drop i plan) (drop i items)) ≡ check capacity k plan items
 
 zeros : (n i : ℕ) → _≡_ {A = ℕ} (getD (replicate n 0) i 0) 0
@@ -48,11 +48,11 @@ module _ (capacity k : ℕ) where
       by-fault (some reason) p = rw (p, entries, q, add-one)
 
   module _ (plan : List Entry) (items : List ℕ) where
-    pub going-start : (n : ℕ) → n ≡ 4_097 → Going capacity k plan items (replicate n 0) 0 (limits capacity k (length plan) (length items))
+    pub walk-start : (n : ℕ) → n ≡ 4_097 → Walking capacity k plan items (replicate n 0) 0 (limits capacity k (length plan) (length items))
     unfolding total check
-    going-start n q = record { before = []; walked = start; to-come = refl }
+    walk-start n q = record { before = []; so-far = start; to-come = refl }
       where
-        start : limits capacity k (length plan) (length items) ≡ PlanResult.Passed → Walked capacity k plan items (replicate n 0) 0 []
+        start : limits capacity k (length plan) (length items) ≡ PlanResult.Passed → SoFar capacity k plan items (replicate n 0) 0 []
         start passed =
             let w = passed-within capacity k (length plan) (length items) passed in
             record {
@@ -67,22 +67,22 @@ module _ (capacity k : ℕ) where
               places = refl;
             }
 
-    module _ (loads : List ℕ) (i : ℕ) (found : PlanResult) (g : Going capacity k plan items loads i found) where
+    module _ (loads : List ℕ) (i : ℕ) (found : PlanResult) (g : Walking capacity k plan items loads i found) where
       module _ (passed : found ≡ PlanResult.Passed) (h : i < length plan) where
-        w : Walked capacity k plan items loads i (g .before)
-        w = g .walked passed
+        w : SoFar capacity k plan items loads i (g .before)
+        w = g .so-far passed
 
         in-items : i < length items
         in-items = omega (arith, passed-within capacity k (length plan) (length items) (w .limited) .one-length)
 
-        pub going-checkable : Checkable capacity k loads items i
-        going-checkable = record { kept = w .kept; in-items = in-items }
+        pub walk-checkable : Checkable capacity k loads items i
+        walk-checkable = record { kept = w .kept; in-items = in-items }
 
-        pub going-next : (e : Entry) → getD plan i blank ≡ e → (answer : PlanResult) (exit : List ℕ) → Checked capacity k loads e items i answer exit
-            → Going capacity k plan items exit (i + 1) answer
-        going-next e here answer exit d = record {
+        pub walk-next : (e : Entry) → getD plan i blank ≡ e → (answer : PlanResult) (exit : List ℕ) → Checked capacity k loads e items i answer exit
+            → Walking capacity k plan items exit (i + 1) answer
+        walk-next e here answer exit d = record {
           before = e ∷ g .before;
-          walked = λ q.
+          so-far = λ q.
               record { limited = w .limited; kept = d .kept; stands = d .added q (g .before) (w .stands); places = rw add-one (ap suc (w .places)) };
           to-come = rw (add-one, d .answered (g .before) (w .stands)) (one-entry (g .before) e _ _ _ i (w .places) ∙ now-here);
         }
@@ -91,12 +91,12 @@ module _ (capacity k : ℕ) where
             now-here = rw (passed, drop-cons plan i blank h, here, drop-cons items i 0 in-items) at (g .to-come)
 
       -- it ends where something is refused, and where no entry is left
-      pub going-refused : (reason : PlanReason) (place : ℕ) → found ≡ PlanResult.Refused reason place → found ≡ check capacity k plan items
-      going-refused reason place q = q ∙ (rw q at (g .to-come))
+      pub walk-refused : (reason : PlanReason) (place : ℕ) → found ≡ PlanResult.Refused reason place → found ≡ check capacity k plan items
+      walk-refused reason place q = q ∙ (rw q at (g .to-come))
 
-      pub going-passed : found ≡ PlanResult.Passed → length plan ≤ i → found ≡ check capacity k plan items
+      pub walk-passed : found ≡ PlanResult.Passed → length plan ≤ i → found ≡ check capacity k plan items
       unfolding entries
-      going-passed q h = q ∙ (rw (q, drop-of-length-le plan {i = i} h) at (g .to-come))
+      walk-passed q h = q ∙ (rw (q, drop-of-length-le plan {i = i} h) at (g .to-come))
 
 -- The plan of two rows, place by place.
 pub plan-length : (sizes bins : List ℕ) → length (planOf sizes bins) ≡ min (length sizes) (length bins)
@@ -115,30 +115,30 @@ plan-at (s ∷ ss) [] i h g = absurd (omega arith)
 plan-at (s ∷ ss) (b ∷ bs) zero h g = refl
 plan-at (s ∷ ss) (b ∷ bs) (suc i) h g = plan-at ss bs i (omega arith) (omega arith)
 
--- The walk over two rows within the limits.
-module _ (capacity k : ℕ) (sizes bins items : List ℕ) (limited : limits capacity k (min (length sizes) (length bins)) (length items) ≡ PlanResult.Passed) where
-  one-length : min (length sizes) (length bins) ≡ length items
-  one-length = passed-within capacity k (min (length sizes) (length bins)) (length items) limited .one-length
+-- The walk over two rows.
+pub rows-start : (capacity k : ℕ) (sizes bins items : List ℕ) → limits capacity k (min (length sizes) (length bins)) (length items) ≡ PlanResult.Passed
+    → Walking capacity k (planOf sizes bins) items (replicate 4_097 0) 0 PlanResult.Passed
+rows-start capacity k sizes bins items limited =
+    let passed : limits capacity k (length (planOf sizes bins)) (length items) ≡ PlanResult.Passed = rw (plan-length sizes bins) limited in
+    rw passed at (walk-start capacity k (planOf sizes bins) items 4_097 refl)
 
-  pub rows-start : Going capacity k (planOf sizes bins) items (replicate 4_097 0) 0 PlanResult.Passed
-  rows-start =
-      let passed : limits capacity k (length (planOf sizes bins)) (length items) ≡ PlanResult.Passed = rw (plan-length sizes bins) limited in
-      rw passed at (going-start capacity k (planOf sizes bins) items 4_097 refl)
+module _ (capacity k : ℕ) (sizes bins items loads : List ℕ) (i : ℕ) (g : Walking capacity k (planOf sizes bins) items loads i PlanResult.Passed) where
+  one-length : length (planOf sizes bins) ≡ length items
+  one-length = passed-within capacity k (length (planOf sizes bins)) (length items) (g .so-far refl .limited) .one-length
 
-  module _ (loads : List ℕ) (i : ℕ) (g : Going capacity k (planOf sizes bins) items loads i PlanResult.Passed) where
-    module _ (h : i < length items) where
-      pub rows-inside : (i < length sizes) × (i < length bins)
-      rows-inside = (omega (arith, one-length), omega (arith, one-length))
+  module _ (h : i < length items) where
+    pub rows-inside : (i < length sizes) × (i < length bins)
+    rows-inside = (omega (arith, one-length, plan-length sizes bins), omega (arith, one-length, plan-length sizes bins))
 
-      in-plan : i < length (planOf sizes bins)
-      in-plan = omega (arith, one-length, plan-length sizes bins)
+    in-plan : i < length (planOf sizes bins)
+    in-plan = omega (arith, one-length)
 
-      pub rows-checkable : Checkable capacity k loads items i
-      rows-checkable = going-checkable capacity k (planOf sizes bins) items loads i PlanResult.Passed g refl in-plan
+    pub rows-checkable : Checkable capacity k loads items i
+    rows-checkable = walk-checkable capacity k (planOf sizes bins) items loads i PlanResult.Passed g refl in-plan
 
-      pub rows-next : (answer : PlanResult) (exit : List ℕ) → Checked capacity k loads (entryAt sizes bins i) items i answer exit
-          → Going capacity k (planOf sizes bins) items exit (i + 1) answer
-      rows-next = going-next capacity k (planOf sizes bins) items loads i PlanResult.Passed g refl in-plan _ (plan-at sizes bins i (rows-inside .0) (rows-inside .1))
+    pub rows-next : (answer : PlanResult) (exit : List ℕ) → Checked capacity k loads (entryAt sizes bins i) items i answer exit
+        → Walking capacity k (planOf sizes bins) items exit (i + 1) answer
+    rows-next = walk-next capacity k (planOf sizes bins) items loads i PlanResult.Passed g refl in-plan _ (plan-at sizes bins i (rows-inside .0) (rows-inside .1))
 
-    pub rows-passed : length items ≤ i → PlanResult.Passed ≡ check capacity k (planOf sizes bins) items
-    rows-passed h = going-passed capacity k (planOf sizes bins) items loads i PlanResult.Passed g refl (omega (arith, one-length, plan-length sizes bins))
+  pub rows-passed : length items ≤ i → PlanResult.Passed ≡ check capacity k (planOf sizes bins) items
+  rows-passed h = walk-passed capacity k (planOf sizes bins) items loads i PlanResult.Passed g refl (omega (arith, one-length))
