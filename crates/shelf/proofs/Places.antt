@@ -10,9 +10,9 @@ use lib.ListN.{length}
 use borrow.Author.Tests.{ltb-false}
 use Rattle.packing.specs.declared.{Entry.Entry, PlanReason.PlanReason, PlanResult.PlanResult}
 use Rattle.packing.specs.declared.PlanReason.the-variants.{CapacityOutside, TooLong, OtherItems}
-use Rattle.packing.specs.Prelude.{if_then_else_, any}
+use Rattle.packing.specs.Prelude.{any}
 use Rattle.packing.specs.Limits.{capacityGood, mostRows}
-use Rattle.packing.specs.Plans.{fault, entries, check}
+use Rattle.packing.specs.Plans.{passIf, _andThen_, limits, fault, entries, check}
 use Rattle.shelf.specs.Codes.{PlanFits}
 
 module _ (capacity k : ℕ) where
@@ -28,16 +28,14 @@ module _ (capacity k : ℕ) where
       go none q r = rw (q, entries) (r (omega arith))
 
   pub plan-fits : (plan : List Entry) (sizes : List ℕ) → PlanFits (check capacity k plan sizes)
-  unfolding check any
+  unfolding check limits any
   plan-fits plan sizes =
       go (capacityGood capacity) (ltb mostRows k) (ltb mostRows (length plan)) (ltb mostRows (length sizes)) (eqb (length plan) (length sizes)) refl
     where
       go : (a b d e f : Bool) → ltb mostRows (length plan) ≡ d
           → PlanFits
-          (if not a then PlanResult.Refused CapacityOutside 0 else
-          if b || (d || (e || false)) then PlanResult.Refused TooLong 0 else
-          if not f then PlanResult.Refused OtherItems (suc (min (length plan) (length sizes))) else
-          entries capacity k [] plan sizes)
+          ((passIf a CapacityOutside 0 andThen passIf (not (b || (d || (e || false)))) TooLong 0 andThen passIf f OtherItems (suc (min (length plan) (length sizes))))
+          andThen entries capacity k [] plan sizes)
       go false b d e f p = omega arith
       go true true d e f p = omega arith
       go true false true e f p = omega arith

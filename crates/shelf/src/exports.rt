@@ -4,11 +4,10 @@ use packing::StreamResult;
 ghost use mathlib.Core.Path.{_≡_};
 ghost use Rattle.packing.specs.Streams.{verdict};
 ghost use Rattle.packing.specs.Run.{result, rowAtExit};
-ghost use Rattle.packing.specs.Plans.{check};
+ghost use Rattle.packing.specs.Plans.{planOf, check};
 ghost use Rattle.packing.specs.Claims.{HoldsAnswered, NeverOverfull, LoadsAddUp, Counts};
 ghost use Rattle.worst_case.specs.OwnPlan.{OwnPlan};
 ghost use Rattle.worst_case.specs.WorstCase.{WorstCase};
-ghost use Rattle.plan_rows.specs.Rows.{planOf};
 ghost use Rattle.shelf.specs.Accepted.{WhenAccepted};
 ghost use Rattle.shelf.specs.Codes.{streamCode, StreamFits, planCode, PlanFits, ZeroExactly};
 

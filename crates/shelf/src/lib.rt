@@ -8,12 +8,11 @@ ghost use mathlib.Core.Path.{_≡_};
 ghost use Rattle.packing.specs.Refusals.{streamGives, planGives};
 ghost use Rattle.packing.specs.Streams.{verdict};
 ghost use Rattle.packing.specs.Run.{result, rowAtExit};
-ghost use Rattle.packing.specs.Plans.{check};
+ghost use Rattle.packing.specs.Plans.{planOf, check};
 ghost use Rattle.packing.specs.Claims.{HoldsAnswered, NeverOverfull, LoadsAddUp, Counts};
 ghost use Rattle.worst_case.specs.PlanFits.{Exact};
 ghost use Rattle.worst_case.specs.OwnPlan.{OwnPlan};
 ghost use Rattle.worst_case.specs.WorstCase.{WorstCase};
-ghost use Rattle.plan_rows.specs.Rows.{planOf};
 ghost use Rattle.shelf.specs.Accepted.{WhenAccepted};
 
 // Shelves the items of a command stream, and answers each command by a word of the row that the caller lends. Of the packing so made, if no

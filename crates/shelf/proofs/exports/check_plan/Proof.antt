@@ -1,9 +1,8 @@
 -- `check_plan` meets its contract: a place always fits (Places), so 0 is the number of no refusal.
 use mathlib.Core.Path.{_≡_, sym, ap, subst, _∙_}
 use Rattle.packing.specs.declared.{PlanResult.PlanResult}
-use Rattle.packing.specs.Plans.{check}
+use Rattle.packing.specs.Plans.{planOf, check}
 use Rattle.packing.proofs.Given.{plan-gives-back}
-use Rattle.plan_rows.specs.Rows.{planOf}
 use borrow.Author.Needs.{needs}
 use Rattle.shelf.specs.Codes.{planCode, PlanFits}
 use Rattle.shelf.proofs.Places.{plan-fits}
