@@ -4,93 +4,84 @@ use mathlib.Core.List.{[], _∷_}
 use Prim.Native.Nat.{ℕ, _/_, _%_, _<_}
 use native.Mathlib.Omega.{arith}
 use lib.ListN.{length}
-use borrow.Fn.Kinds.{In}
+use borrow.Fn.Kinds.{In, Out}
 use borrow.Fn.PlainCycle.{Measures, is, falls, and}
 use Rattle.text.specs.Lines.{digit, decimal}
 use Rattle.text.proofs.Decimals.{decimal-small, decimal-large}
 use Rattle.text.proofs.Rows.{room-first, room-second, wrote-both}
-use Rattle.text.proofs.put_decimal.Reads as put-decimal
-use Rattle.text.proofs.put_decimal.Kinds as put-decimal-kinds
-use Rattle.text.proofs.+put_decimal.Lts-put_decimal as put-decimal-lts
-use Rattle.text.proofs.put_byte.Reads as put-byte-reads
+use Rattle.text.proofs.put_decimal.Reads as reads
+use Rattle.text.proofs.put_decimal.Kinds as kinds
+use Rattle.text.proofs.+put_decimal.Lts-put_decimal as lts
+use Rattle.text.proofs.put_byte.Reads as put-byte
 use Rattle.text.proofs.+put_decimal.{statement}
 use Rattle.text.proofs.+put_decimal.Tie.{close}
 
-abbrev μ-put-decimal : Measures 1 put-decimal-kinds.ps ℕ
+abbrev μ-put-decimal : Measures 1 kinds.ps ℕ
 μ-put-decimal κs a = a .1 .1 .0
 
-abbrev put-decimal-at : ℕ → In 1 put-decimal-kinds.ps
-put-decimal-at t = and 1 put-decimal-kinds.ps (is 1 put-decimal-kinds.ps μ-put-decimal t) put-decimal.Pre
+-- A call at measure m may call itself below m.
+module _ (m : ℕ) where
+  abbrev begins : In 1 kinds.ps
+  begins = and 1 kinds.ps (is 1 kinds.ps μ-put-decimal m) reads.Pre
 
-abbrev put-decimal-below : ℕ → In 1 put-decimal-kinds.ps
-put-decimal-below t = and 1 put-decimal-kinds.ps (falls 1 put-decimal-kinds.ps _<_ μ-put-decimal t) put-decimal.Pre
+  abbrev calls : lts.Claims
+  calls = (put-byte.Asked, put-byte.Learnt, and 1 kinds.ps (falls 1 kinds.ps _<_ μ-put-decimal m) reads.Pre, reads.Post)
 
-put-decimal-cast-only : (t : ℕ) → put-decimal-lts.Need-cast-only (put-byte-reads.Asked, put-byte-reads.Learnt, put-decimal-below t, put-decimal.Post) (put-decimal-at t) put-decimal.Post
-put-decimal-cast-only t c = omega arith
+  -- A place of the code, or what is needed there, of such a call.
+  abbrev At : (lts.Claims → In 1 kinds.ps → Out 1 kinds.ps kinds.r → Type 0) → Type 0
+  At place = place calls begins reads.Post
 
-put-decimal-add-only : (t : ℕ) → put-decimal-lts.Need-add-only (put-byte-reads.Asked, put-byte-reads.Learnt, put-decimal-below t, put-decimal.Post) (put-decimal-at t) put-decimal.Post
-put-decimal-add-only t c = omega arith
+  cast-only : At lts.Need-cast-only
+  cast-only c = omega arith
 
-put-decimal-put-byte-requires : (t : ℕ) → put-decimal-lts.Need-put-byte-requires (put-byte-reads.Asked, put-byte-reads.Learnt, put-decimal-below t, put-decimal.Post) (put-decimal-at t) put-decimal.Post
-put-decimal-put-byte-requires t c κs =
-    let s = c .before .before .before in
-    omega (arith, s .pre .1, ap length (decimal-small (s .args .n) (c .before .if1 .taken)))
+  add-only : At lts.Need-add-only
+  add-only c = omega arith
 
-put-decimal-same-length : (t : ℕ) → put-decimal-lts.Need-same-length (put-byte-reads.Asked, put-byte-reads.Learnt, put-decimal-below t, put-decimal.Post) (put-decimal-at t) put-decimal.Post
-put-decimal-same-length t c = c .before .before .put-byte .kept .0
+  put-byte-requires : At lts.Need-put-byte-requires
+  put-byte-requires c κs =
+      let s = c .before .before .before in
+      omega (arith, s .pre .1, ap length (decimal-small (s .args .n) (c .before .if1 .taken)))
 
-put-decimal-returns : (t : ℕ) → put-decimal-lts.Need-returns (put-byte-reads.Asked, put-byte-reads.Learnt, put-decimal-below t, put-decimal.Post) (put-decimal-at t) put-decimal.Post
-put-decimal-returns t c =
-    let w = c .before .before in
-    let s = w .before .before .before .before in
-    rw (decimal-small (s .args .n) (w .before .before .if1 .taken)) (w .put-byte .ensures)
+  same-length : At lts.Need-same-length
+  same-length c = c .before .before .put-byte .kept .0
 
-put-decimal-put-decimal-requires : (t : ℕ) → put-decimal-lts.Need-put-decimal-requires (put-byte-reads.Asked, put-byte-reads.Learnt, put-decimal-below t, put-decimal.Post) (put-decimal-at t) put-decimal.Post
-put-decimal-put-decimal-requires t c κs =
-    let s = c .before .before .before in
-    let e = decimal-large (s .args .n) (c .before .if1 .left) in
-    (omega arith, room-first (s .args .out .now) (s .args .at) (decimal (s .args .n / 10)) _ (rw e at (s .pre .1)))
+  returns : At lts.Need-returns
+  returns c =
+      let w = c .before .before in
+      let s = w .before .before .before .before in
+      rw (decimal-small (s .args .n) (w .before .before .if1 .taken)) (w .put-byte .ensures)
 
-put-decimal-cast-last : (t : ℕ) → put-decimal-lts.Need-cast-last (put-byte-reads.Asked, put-byte-reads.Learnt, put-decimal-below t, put-decimal.Post) (put-decimal-at t) put-decimal.Post
-put-decimal-cast-last t c = omega arith
+  put-decimal-requires : At lts.Need-put-decimal-requires
+  put-decimal-requires c κs =
+      let s = c .before .before .before in
+      let e = decimal-large (s .args .n) (c .before .if1 .left) in
+      (omega arith, room-first (s .args .out .now) (s .args .at) (decimal (s .args .n / 10)) _ (rw e at (s .pre .1)))
 
-put-decimal-add-last : (t : ℕ) → put-decimal-lts.Need-add-last (put-byte-reads.Asked, put-byte-reads.Learnt, put-decimal-below t, put-decimal.Post) (put-decimal-at t) put-decimal.Post
-put-decimal-add-last t c = omega arith
+  cast-last : At lts.Need-cast-last
+  cast-last c = omega arith
 
-put-decimal-put-byte-requires-2 : (t : ℕ) → put-decimal-lts.Need-put-byte-requires-2 (put-byte-reads.Asked, put-byte-reads.Learnt, put-decimal-below t, put-decimal.Post) (put-decimal-at t) put-decimal.Post
-put-decimal-put-byte-requires-2 t c κs =
-    let d = c .before .before .before in
-    let s = d .before .before .before .before in
-    room-second (s .args .out .now) (s .args .at) (decimal (s .args .n / 10)) (digit (s .args .n % 10) ∷ []) _ _ (d .put-decimal .ensures)
-    (rw (decimal-large (s .args .n) (d .before .before .if1 .left)) at (s .pre .1))
+  add-last : At lts.Need-add-last
+  add-last c = omega arith
 
-put-decimal-same-length-2 : (t : ℕ) → put-decimal-lts.Need-same-length-2 (put-byte-reads.Asked, put-byte-reads.Learnt, put-decimal-below t, put-decimal.Post) (put-decimal-at t) put-decimal.Post
-put-decimal-same-length-2 t c = c .before .before .put-byte2 .kept .0 ∙ c .before .before .before .before .before .before .put-decimal .kept .0
+  put-byte-requires-2 : At lts.Need-put-byte-requires-2
+  put-byte-requires-2 c κs =
+      let d = c .before .before .before in
+      let s = d .before .before .before .before in
+      room-second (s .args .out .now) (s .args .at) (decimal (s .args .n / 10)) (digit (s .args .n % 10) ∷ []) _ _ (d .put-decimal .ensures)
+      (rw (decimal-large (s .args .n) (d .before .before .if1 .left)) at (s .pre .1))
 
-put-decimal-returns-2 : (t : ℕ) → put-decimal-lts.Need-returns-2 (put-byte-reads.Asked, put-byte-reads.Learnt, put-decimal-below t, put-decimal.Post) (put-decimal-at t) put-decimal.Post
-put-decimal-returns-2 t c =
-    let b = c .before .before in
-    let d = b .before .before .before .before in
-    let s = d .before .before .before .before in
-    rw (decimal-large (s .args .n) (d .before .before .if1 .left))
-    (wrote-both (s .args .out .now) (s .args .at) (decimal (s .args .n / 10)) _ _ _ (d .put-decimal .ensures) _ _ (b .put-byte2 .ensures))
+  same-length-2 : At lts.Need-same-length-2
+  same-length-2 c = c .before .before .put-byte2 .kept .0 ∙ c .before .before .before .before .before .before .put-decimal .kept .0
+
+  returns-2 : At lts.Need-returns-2
+  returns-2 c =
+      let b = c .before .before in
+      let d = b .before .before .before .before in
+      let s = d .before .before .before .before in
+      rw (decimal-large (s .args .n) (d .before .before .if1 .left))
+      (wrote-both (s .args .out .now) (s .args .at) (decimal (s .args .n / 10)) _ _ _ (d .put-decimal .ensures) _ _ (b .put-byte2 .ensures))
 
 pub +put-decimal-spec : {M : Type 1} → statement M
 +put-decimal-spec =
-    close
-    μ-put-decimal
-    λ t. put-decimal-lts.spec
-    (put-byte-reads.Asked, put-byte-reads.Learnt, put-decimal-below t, put-decimal.Post)
-    (put-decimal-at t)
-    put-decimal.Post
-    (put-decimal-cast-only t)
-    (put-decimal-add-only t)
-    (put-decimal-put-byte-requires t)
-    (put-decimal-same-length t)
-    (put-decimal-returns t)
-    (put-decimal-put-decimal-requires t)
-    (put-decimal-cast-last t)
-    (put-decimal-add-last t)
-    (put-decimal-put-byte-requires-2 t)
-    (put-decimal-same-length-2 t)
-    (put-decimal-returns-2 t)
+    close μ-put-decimal λ m. lts.spec (calls m) (begins m) reads.Post (cast-only m) (add-only m) (put-byte-requires m) (same-length m) (returns m)
+    (put-decimal-requires m) (cast-last m) (add-last m) (put-byte-requires-2 m) (same-length-2 m) (returns-2 m)
