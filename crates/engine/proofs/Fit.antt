@@ -1,86 +1,47 @@
--- First fit over the bins, by what each bin shows, and the bins once an item is put.
+-- First fit over the bins, by what each bin shows, and what the bins show once an item is put.
 use mathlib.Core.Path.{_≡_, refl, ap}
 use mathlib.Core.Logic.{⊎-elim}
-use mathlib.Core.Bool.{Bool, true}
+use mathlib.Core.Bool.{Bool}
 use mathlib.Core.List.{List, [], _∷_, map}
+use mathlib.Mathlib.Data.Bool.Basic.{dichotomy}
 use Prim.Native.Nat.{ℕ, zero, suc, _≤_, _<_}
 use native.Mathlib.Omega.{arith}
-use lib.Dec.{leb}
+use lib.Dec.{leb, eqb, eqb·zero-suc, eqb·suc-zero, eqb·suc-suc}
 use lib.ListN.{length, getD}
 use borrow.Author.Tests.{le-leb, lt-leb}
 use Rattle.packing.specs.Prelude.{if_then_else_}
 use Rattle.packing.specs.Bins.{Item, Bin, add}
 use Rattle.packing.specs.Placing.{firstFit, put}
-use Rattle.engine.proofs.Tests.{either}
 
--- Where a positive number is shown, there is a bin.
-pub inside : (f : Bin → ℕ) (bins : List Bin) (i : ℕ) → 0 < getD (map f bins) i 0 → i < length bins
-inside f [] i h = absurd (omega arith)
-inside f (b ∷ bs) zero h = omega arith
-inside f (b ∷ bs) (suc i) h = omega (arith, inside f bs i h)
+module _ (f : Bin → ℕ) where
+  -- Where more than 0 is shown there is a bin,
+  pub bin-there : (bins : List Bin) (i : ℕ) → 0 < getD (map f bins) i 0 → i < length bins
+  bin-there [] i h = absurd (omega arith)
+  bin-there (b ∷ bs) zero h = omega arith
+  bin-there (b ∷ bs) (suc i) h = omega (arith, bin-there bs i h)
 
--- Past the last bin 0 is shown.
-pub outside : (f : Bin → ℕ) (bins : List Bin) → getD (map f bins) (length bins) 0 ≡ 0
-outside f [] = refl
-outside f (b ∷ bs) = outside f bs
+  -- and where there is a bin, what is shown is what it shows.
+  pub bin-shows : (new : Bin) (bins : List Bin) (i : ℕ) → i < length bins → getD (map f bins) i 0 ≡ f (getD bins i new)
+  bin-shows new [] i h = absurd (omega arith)
+  bin-shows new (b ∷ bs) zero h = refl
+  bin-shows new (b ∷ bs) (suc i) h = bin-shows new bs i (omega arith)
 
--- A bin takes an item of size s exactly where it shows s or more.
-module _ (f : Bin → ℕ) (takes : Bin → Bool) (s : ℕ) (some : 0 < s) (agree : (b : Bin) → takes b ≡ leb s (f b)) where
-  pub fit-found : (bins : List Bin) (i : ℕ) → s ≤ getD (map f bins) i 0 → ((k : ℕ) → k < i → getD (map f bins) k 0 < s) → firstFit takes bins ≡ i
+  -- If a bin takes an item of size s exactly where it shows s or more, first fit stops at the first bin that does, or behind the last.
+  pub fit-at : (takes : Bin → Bool) (s : ℕ) → ((b : Bin) → takes b ≡ leb s (f b)) → (bins : List Bin) (i : ℕ) → i ≤ length bins
+      → ((k : ℕ) → k < i → getD (map f bins) k 0 < s) → (i < length bins → s ≤ getD (map f bins) i 0) → firstFit takes bins ≡ i
   unfolding firstFit
-  fit-found [] i e n = absurd (omega arith)
-  fit-found (b ∷ bs) zero e n = rw (agree b, le-leb s (f b) e)
-  fit-found (b ∷ bs) (suc i) e n =
-      rw (agree b, lt-leb s (f b) (n zero (omega arith))) (ap suc (fit-found bs i e (λ k h. n (suc k) (omega arith))))
+  fit-at takes s agree [] i l before here = omega arith
+  fit-at takes s agree (b ∷ bs) zero l before here = rw (agree b, le-leb s (f b) (here (omega arith)))
+  fit-at takes s agree (b ∷ bs) (suc i) l before here =
+      rw (agree b, lt-leb s (f b) (before zero (omega arith)))
+      (ap suc (fit-at takes s agree bs i (omega arith) (λ k h. before (suc k) (omega arith)) (λ h. here (omega arith))))
 
-  pub fit-none : (bins : List Bin) → ((k : ℕ) → k < length bins → getD (map f bins) k 0 < s) → firstFit takes bins ≡ length bins
-  unfolding firstFit
-  fit-none [] n = refl
-  fit-none (b ∷ bs) n =
-      rw (agree b, lt-leb s (f b) (n zero (omega arith))) (ap suc (fit-none bs (λ k h. n (suc k) (omega arith))))
-
-module _ (takes : Bin → Bool) (new : Bin) (i : Item) where
-  -- The bin that the item joins.
-  unfoldable pub chosen : List Bin → Bin
-  chosen [] = new
-  chosen (b ∷ bs) = if takes b then b else chosen bs
-
-  pub put-here : (f : Bin → ℕ) (bins : List Bin) → getD (map f (put takes new i bins)) (firstFit takes bins) 0 ≡ f (add i (chosen bins))
-  unfolding firstFit put chosen
-  put-here f [] = refl
-  put-here f (b ∷ bs) = ⊎-elim (λ e. rw e) (λ e. rw e (put-here f bs)) (either (takes b))
-
-  pub put-other : (f : Bin → ℕ) (bins : List Bin) (j : ℕ) → (j ≡ firstFit takes bins → ⊥)
-      → getD (map f (put takes new i bins)) j 0 ≡ getD (map f bins) j 0
+  -- Once an item is put, the bin that got it shows what it now shows, and every other what it did.
+  pub put-shows : (takes : Bin → Bool) (new : Bin) (i : Item) (bins : List Bin) (j : ℕ) → getD (map f (put takes new i bins)) j 0
+      ≡ (if eqb j (firstFit takes bins) then f (add i (getD bins (firstFit takes bins) new)) else getD (map f bins) j 0)
   unfolding firstFit put
-  put-other f [] zero z = absurd (z refl)
-  put-other f [] (suc j) z = refl
-  put-other f (b ∷ bs) zero z = ⊎-elim (λ e. absurd (rw e at z refl)) (λ e. rw e) (either (takes b))
-  put-other f (b ∷ bs) (suc j) z =
-      ⊎-elim (λ e. rw e) (λ e. rw e (put-other f bs j (λ q. (rw e at z) (ap suc q)))) (either (takes b))
-
-  -- Where some bin takes the item.
-  pub chosen-takes : (bins : List Bin) → firstFit takes bins < length bins → takes (chosen bins) ≡ true
-  unfolding firstFit chosen
-  chosen-takes [] h = absurd (omega arith)
-  chosen-takes (b ∷ bs) h = ⊎-elim
-      (λ e. rw e e)
-      (λ e. let l : suc (firstFit takes bs) < suc (length bs) = rw e at h in rw e (chosen-takes bs (omega arith)))
-      (either (takes b))
-
-  pub chosen-shows : (f : Bin → ℕ) (bins : List Bin) → firstFit takes bins < length bins → f (chosen bins) ≡ getD (map f bins) (firstFit takes bins) 0
-  unfolding firstFit chosen
-  chosen-shows f [] h = absurd (omega arith)
-  chosen-shows f (b ∷ bs) h = ⊎-elim
-      (λ e. rw e)
-      (λ e. let l : suc (firstFit takes bs) < suc (length bs) = rw e at h in rw e (chosen-shows f bs (omega arith)))
-      (either (takes b))
-
-  -- Where no bin does.
-  pub chosen-new : (bins : List Bin) → firstFit takes bins ≡ length bins → chosen bins ≡ new
-  unfolding firstFit chosen
-  chosen-new [] h = refl
-  chosen-new (b ∷ bs) h = ⊎-elim
-      (λ e. let l : 0 ≡ suc (length bs) = rw e at h in absurd (omega arith))
-      (λ e. let l : suc (firstFit takes bs) ≡ suc (length bs) = rw e at h in rw e (chosen-new bs (omega arith)))
-      (either (takes b))
+  put-shows takes new i [] zero = refl
+  put-shows takes new i [] (suc j) = rw (eqb·suc-zero j)
+  put-shows takes new i (b ∷ bs) zero = ⊎-elim (λ e. rw e (rw (eqb·zero-suc (firstFit takes bs)))) (λ e. rw e) (dichotomy (takes b))
+  put-shows takes new i (b ∷ bs) (suc j) =
+      ⊎-elim (λ e. rw e (rw (eqb·suc-suc j (firstFit takes bs)) (put-shows takes new i bs j))) (λ e. rw e (rw (eqb·suc-zero j))) (dichotomy (takes b))

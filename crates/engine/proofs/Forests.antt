@@ -1,84 +1,78 @@
--- A store in one tree of five leaves the others as they were.
-use mathlib.Core.Path.{_≡_, sym, ap, _∙_}
-use mathlib.Core.Bool.{true, false, or-true}
+-- A bin's free space stored in one tree of five, and then in tree 0 too: all else is as it was.
+use mathlib.Core.Path.{_≡_, refl, sym, ap, _∙_}
+use mathlib.Core.Bool.{Bool, true, false, _&&_, _||_, and-true, and-false, or-false}
 use mathlib.Core.List.{List}
 use Prim.Native.Nat.{ℕ, _+_, _*_, _<_}
 use native.Mathlib.Decide.{ℕ-discrete}
 use native.Mathlib.Omega.{arith}
+use lib.Dec.{eqb}
 use lib.ListN.{length, getD}
 use lib.Seq.{getD-set-same, getD-set-other}
 use borrow.Author.Tests.{eq-eqb, ne-eqb}
+use Rattle.packing.specs.Prelude.{if_then_else_}
 use Rattle.tournament.specs.declared.Shape.{Shape}
-use Rattle.tournament.specs.Trees.{leaves}
-use Rattle.tournament.proofs.Leaves.{leaf-node, leaves-length}
+use Rattle.tournament.specs.Trees.{stride}
 use Rattle.climb.specs.Stored.{Stored}
-use Rattle.engine.specs.Store.{shownAt, Forest}
+use Rattle.tournament.proofs.Leaves.{leaf-node, leaves-length}
+use Rattle.engine.specs.Store.{base, shownBy, shownAt, Forest}
 use Rattle.engine.specs.Shown.{Shown}
 
 -- Every place of a tree is a leaf of it.
-pub leaf-count : (shape : Shape) (t : List ℕ) → Forest shape t → (n : ℕ) → n < 5 → length (leaves t (1024 * n) (shape .places)) ≡ shape .places
-leaf-count shape t f n l = leaves-length t (1024 * n) (shape .places) (omega (arith, f .tree n l .words, f .tree n l .room))
+pub leaf-count : {shape : Shape} {t : List ℕ} → Forest shape t → (n : ℕ) → n < 5 → length (shownBy t shape n) ≡ shape .places
+leaf-count {shape} {t} f n l = leaves-length t (base n) (shape .places) (omega (arith, f .tree n l .words, f .tree n l .room))
 
 -- Stored in tree h at place i.
-module _ (shape : Shape) (t : List ℕ) (h i free : ℕ) (u : List ℕ) (few : h < 5) (f : Forest shape t) (inside : i < shape .places)
-    (s : Stored (1024 * h) shape t i free u) where
+module _ {shape : Shape} {t u : List ℕ} {h i free : ℕ} (f : Forest shape t) (few : h < 5) (inside : i < shape .places)
+    (s : Stored (base h) shape t i free u) where
   -- a word of another tree
-  elsewhere : (n j : ℕ) → (n ≡ h → ⊥) → j < 1024 → getD u (1024 * n + j) 0 ≡ getD t (1024 * n + j) 0
-  elsewhere n j z l = s .outside (1024 * n + j) (λ x y. omega (arith, f .few, z))
+  elsewhere : (n j : ℕ) → (h ≡ n → ⊥) → j < stride → getD u (base n + j) 0 ≡ getD t (base n + j) 0
+  elsewhere n j z l = s .outside (base n + j) (λ x y. z (omega (arith, f .few)))
 
   pub still : Forest shape u
   still = record {
     few = f .few;
-    tree = λ n l. elim (ℕ-discrete n h) [
-      | yes e ↦ rw e (s .tree)
+    tree = λ n l. elim (ℕ-discrete h n) [
+      | yes e ↦ rw e at (s .tree)
       | no e ↦ record {
         power = s .tree .power;
         words = s .tree .words;
         room = f .tree n l .room;
         right = λ k x y.
-            let q : k < 1024 = omega (arith, f .few) in
-            let q₀ : 2 * k < 1024 = omega (arith, f .few) in
-            let q₁ : 2 * k + 1 < 1024 = omega (arith, f .few) in
-            rw (elsewhere n k e q, elsewhere n (2 * k) e q₀, elsewhere n (2 * k + 1) e q₁) (f .tree n l .right k x y);
+            let q : 2 * k + 1 < stride = omega (arith, f .few) in
+            rw (elsewhere n k e (omega arith), elsewhere n (2 * k) e (omega arith), elsewhere n (2 * k + 1) e q) (f .tree n l .right k x y);
       }
     ];
   }
 
-  pub same : shownAt u (shape .places) h i ≡ free
-  same = ap (λ (vs : List ℕ). getD vs i 0) (s .leaf) ∙ getD-set-same (leaves t (1024 * h) (shape .places)) i free 0 (omega (arith, leaf-count shape t f h few))
+  in-tree : (j : ℕ) → shownAt u shape h j ≡ (if eqb j i then free else shownAt t shape h j)
+  in-tree j = ap (λ (vs : List ℕ). getD vs j 0) (s .leaf) ∙ elim (ℕ-discrete j i) [
+    | yes e ↦ rw (eq-eqb j i e, e) (getD-set-same (shownBy t shape h) i free 0 (omega (arith, leaf-count f h few)))
+    | no e ↦ rw (ne-eqb j i e) (getD-set-other (shownBy t shape h) i j free 0 e)
+  ]
 
-  pub other-tree : (n j : ℕ) → j < shape .places → (n ≡ h → ⊥) → shownAt u (shape .places) n j ≡ shownAt t (shape .places) n j
-  other-tree n j l z =
-      leaf-node u (1024 * n) (shape .places) j l
-      ∙ elsewhere n (shape .places + j) z (omega (arith, f .few))
-      ∙ sym (leaf-node t (1024 * n) (shape .places) j l)
-
-  pub other-place : (n j : ℕ) → j < shape .places → (j ≡ i → ⊥) → shownAt u (shape .places) n j ≡ shownAt t (shape .places) n j
-  other-place n j l z = elim (ℕ-discrete n h) [
-    | yes e ↦ rw e (ap (λ (vs : List ℕ). getD vs j 0) (s .leaf) ∙ getD-set-other (leaves t (1024 * h) (shape .places)) i j free 0 z)
-    | no e ↦ other-tree n j l e
+  pub stored : (n j : ℕ) → j < shape .places → shownAt u shape n j ≡ (if eqb j i && eqb h n then free else shownAt t shape n j)
+  stored n j l = elim (ℕ-discrete h n) [
+    | yes e ↦ rw (eq-eqb h n e, and-true, ← e) (in-tree j)
+    | no e ↦ rw (ne-eqb h n e, and-false)
+        (leaf-node u (base n) (shape .places) j l ∙ elsewhere n (shape .places + j) e (omega (arith, f .few)) ∙ sym (leaf-node t (base n) (shape .places) j l))
   ]
 
   pub shown-once : Shown shape t h false i free u
-  shown-once = record {
-    forest = still;
-    here = λ n l. elim (ℕ-discrete n h) [
-      | yes e ↦ rw (eq-eqb n h e) (ap (λ (k : ℕ). shownAt u (shape .places) k i) e ∙ same)
-      | no e ↦ rw (ne-eqb n h e) (other-tree n i inside e)
-    ];
-    others = λ n j l m z. other-place n j m z;
-  }
+  shown-once = record { forest = still; shown = λ n j m l. rw or-false (stored n j l) }
 
--- and then in tree 0
-pub shown-twice : (shape : Shape) (t : List ℕ) (h i free : ℕ) (u v : List ℕ) → i < shape .places
+-- Stored so, and then in tree 0.
+pub shown-twice : {shape : Shape} {t u v : List ℕ} {h i free : ℕ} → i < shape .places
     → Shown shape t h false i free u → Stored 0 shape u i free v → Shown shape t h true i free v
-shown-twice shape t h i free u v inside a s =
+shown-twice {h = h} {i = i} inside a s =
     let few : 0 < 5 = omega arith in
     record {
-      forest = still shape u 0 i free v few (a .forest) inside s;
-      here = λ n l. elim (ℕ-discrete n 0) [
-        | yes e ↦ rw (eq-eqb n 0 e, or-true) (ap (λ (k : ℕ). shownAt v (shape .places) k i) e ∙ same shape u 0 i free v few (a .forest) inside s)
-        | no e ↦ other-tree shape u 0 i free v few (a .forest) inside s n i inside e ∙ a .here n l ∙ rw (ne-eqb n 0 e)
-      ];
-      others = λ n j l m z. other-place shape u 0 i free v few (a .forest) inside s n j m z ∙ a .others n j l m z;
+      forest = still (a .forest) few inside s;
+      shown = λ n j m l. stored (a .forest) few inside s n j l ∙ rw (a .shown n j m l) (either (eqb j i) (eqb h n) (eqb 0 n) _ _);
     }
+  where
+    either : (x y z : Bool) (a b : ℕ) → (if x && z then a else (if x && (y || false) then a else b)) ≡ (if x && (y || z) then a else b)
+    either true true true a b = refl
+    either true true false a b = refl
+    either true false true a b = refl
+    either true false false a b = refl
+    either false y z a b = refl

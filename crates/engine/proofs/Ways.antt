@@ -1,115 +1,103 @@
 -- The ways out of a step, each a law over what the code knows there.
 use mathlib.Core.Path.{_≡_, refl, sym, ap, _∙_}
+use mathlib.Core.Bool.{Bool, true, false, _&&_}
 use mathlib.Core.List.{List}
-use Prim.Native.Nat.{ℕ, _+_, _-_, _*_, _≤_, _<_}
+use Prim.Native.Nat.{ℕ, _+_, _-_, _<_}
 use native.Mathlib.Omega.{arith}
-use lib.Dec.{leb, eqb}
-use lib.ListN.{length}
-use borrow.Author.Tests.{eq-eqb, ne-eqb, lt-ltb}
+use lib.Dec.{eqb}
+use borrow.Author.Tests.{eqb-true}
 use Rattle.packing.specs.declared.{Opening.Opening, Answer.Answer, ItemReason.ItemReason}
 use Rattle.packing.specs.declared.Outcome.the-variants.{Placed, Counted, Refused}
-use Rattle.packing.specs.declared.ItemReason.the-variants.{SizeZero, AboveCapacity, StockSpent}
 use Rattle.packing.specs.declared.Command.the-variants.{Shelve, Count}
-use Rattle.packing.specs.SizeClasses.{sizeClass}
-use Rattle.packing.specs.Bins.{Packing}
-use Rattle.packing.specs.Placing.{outcome}
+use Rattle.packing.specs.Prelude.{if_then_else_, total}
+use Rattle.packing.specs.Bins.{Packing, load, add}
+use Rattle.packing.specs.Placing.{into, refusing, permitted, takes, binFor, decision, placed}
 use Rattle.packing.specs.Run.{item}
+use Rattle.packing.proofs.Tests.{clash}
+use Rattle.packing.proofs.Decided.{goes-in, decides}
+use Rattle.packing.proofs.Reached.{opened-placed}
 use Rattle.tournament.specs.declared.Shape.{Shape}
-use Rattle.tournament.specs.Trees.{leaves}
-use Rattle.tournament.proofs.Fits.{Lowest, Lacking}
-use Rattle.engine.specs.declared.Counters.{Counters}
-use Rattle.engine.specs.Aims.{home, phaseAfter, accepting}
-use Rattle.engine.specs.Store.{Store, held, shownAt, Forest, Sound, Represents}
-use Rattle.engine.specs.Shown.{Shown}
-use Rattle.engine.specs.Done.{answerOf, Counting, Done}
-use Rattle.engine.proofs.Aiming.{phase-below}
-use Rattle.engine.proofs.Forests.{leaf-count}
-use Rattle.engine.proofs.Aimed.{Aimed, tree-few}
-use Rattle.engine.proofs.Joining.{found-modelled}
-use Rattle.engine.proofs.Anew.{spent-outcome, new-modelled}
-
--- Two outcomes of different kinds.
-placed-not-refused : {bin : ℕ} {reason : ItemReason} → Placed bin ≡ Refused reason → ⊥
-placed-not-refused e = let z : _≡_ {A = ℕ} 0 1 = cc in omega arith
-
-counted-not-refused : {bins : ℕ} {reason : ItemReason} → Counted bins ≡ Refused reason → ⊥
-counted-not-refused e = let z : _≡_ {A = ℕ} 0 1 = cc in omega arith
+use Rattle.aim.specs.declared.Counters.{Counters}
+use Rattle.aim.specs.Aims.{aim, home, accepting}
+use Rattle.aim.proofs.Aiming.{home-positive}
+use Rattle.engine.specs.declared.Spot.{Spot}
+use Rattle.engine.specs.Store.{Store, held, shownAt, Sound, shows, toShow, Represents}
+use Rattle.engine.specs.Shown.{shownIn, Shown}
+use Rattle.engine.specs.Done.{answering, Counting, Modelled, Done}
+use Rattle.engine.proofs.Fit.{put-shows}
+use Rattle.engine.proofs.Shows.{permitted-after}
+use Rattle.engine.proofs.Aimed.{Aimed, phase-few, phase-after}
+use Rattle.engine.proofs.Spotted.{newBin, passed, chosen, IsSpot, Spotted}
 
 -- Refused: the store stays.
-module _ (o : Opening) (shape : Shape) (s : Store) (number size : ℕ) (sound : Sound o shape s) where
-  done-refused : (reason : ItemReason) → ((p : Packing) → Represents o shape s p → outcome o p (item size) ≡ Refused reason)
-      → Done o shape s number (Shelve size) (answerOf number (Refused reason)) s
-  done-refused reason m = record {
-    sound = sound;
+pub done-refused : {o : Opening} {shape : Shape} {w : Store} {number size : ℕ} {reason : ItemReason} → Sound o shape w
+    → ((p : Packing) → Represents o shape w p → decision o p (item size) ≡ refusing reason)
+    → Done o shape w number (Shelve size) (answering number (Refused reason)) w
+done-refused sound m = record {
+  sound = sound;
+  numbered = refl;
+  model = λ p r. record { answered = rw (m p r); represents = rw (m p r) r };
+  items = omega arith;
+  refused = λ _ _. refl;
+}
+
+-- Placed in a spot that is the model's, which then is shown.
+module _ {o : Opening} {c : Counters} {size n : ℕ} (a : Aimed o c size n) {s : Spot} {shape : Shape} {t u : List ℕ}
+    (d : Shown shape t (home n) (s .«holds_a») (s .place) (s .free) u) where
+  module _ {p : Packing} (r : Represents o shape (held t c) p) (m : IsSpot o p size n s) where
+    -- At the place of the chosen bin the trees show what the bin shows with the item,
+    shown-here : (k : ℕ) → (if shownIn (home n) (s .«holds_a») k then s .free else toShow o p k (passed o p size)) ≡ shows o k (add (item size) (chosen o p size))
+    unfolding total
+    shown-here k =
+        rw (← permitted-after o (item size) (chosen o p size) (home n) (home-positive n) (m .class-is) (s .«holds_a») (m .holds-is) k)
+        (go (permitted o (aim k) (add (item size) (chosen o p size))) (m .hidden k))
+      where
+        go : (x : Bool) → (x ≡ false → toShow o p k (passed o p size) ≡ 0)
+            → (if x then s .free else toShow o p k (passed o p size)) ≡ (if x then o .capacity - (size + load (chosen o p size)) else 0)
+        go true h = m .free-is
+        go false h = h refl
+
+    -- and at every other what they did.
+    shown-next : (k j : ℕ) → k < 5 → j < shape .places → shownAt u shape k j ≡ toShow o (placed o p (item size)) k j
+    unfolding placed
+    shown-next k j l b =
+        d .shown k j l b ∙ rw (m .place-is, r .shown k j l b) (go (eqb j (passed o p size)) refl)
+        ∙ sym (put-shows (shows o k) (takes o p (item size)) (newBin o p size) (item size) (p .bins) j)
+      where
+        go : (x : Bool) → eqb j (passed o p size) ≡ x → (if x && shownIn (home n) (s .«holds_a») k then s .free else toShow o p k j)
+            ≡ (if x then shows o k (add (item size) (chosen o p size)) else toShow o p k j)
+        go true e = rw (eqb-true j (passed o p size) e) (shown-here k)
+        go false e = refl
+
+    modelled : Modelled o shape (Shelve size) (Placed (s .place + 1)) (held u (accepting n (s .opened) c)) p
+    modelled =
+        let goes : decision o p (item size) ≡ into (binFor o p (item size)) =
+        decides o p (item size) _ (goes-in (record { some = a .some; within-capacity = a .fits; not-spent = m .in-stock })) in
+        record {
+          answered = rw goes (ap Placed (omega (arith, m .place-is)));
+          represents = rw goes (record { bins = m .opened-is ∙ sym (opened-placed o p (item size)); b2s = phase-after a r; shown = shown-next });
+        }
+
+  pub done-placed : {number : ℕ} → Sound o shape (held t c) → Spotted o shape (held t c) size n s
+      → Done o shape (held t c) number (Shelve size) (answering number (Placed (s .place + 1))) (held u (accepting n (s .opened) c))
+  done-placed sound w = record {
+    sound = record { forest = d .forest; stock = sound .stock; within = w .stock; phase = phase-few a };
     numbered = refl;
-    model = λ p r. record { answered = sym (m p r); represents = rw (m p r) r };
-    items = omega arith;
-    refused = λ _ _. refl;
-  }
-
-  pub done-zero : size ≡ 0 → Done o shape s number (Shelve size) (answerOf number (Refused SizeZero)) s
-  unfolding outcome
-  done-zero z = done-refused SizeZero (λ p r. rw (eq-eqb size 0 z))
-
-  pub done-large : (size ≡ 0 → ⊥) → o .capacity < size → Done o shape s number (Shelve size) (answerOf number (Refused AboveCapacity)) s
-  unfolding outcome
-  done-large z l = done-refused AboveCapacity (λ p r. rw (ne-eqb size 0 z, lt-ltb (o .capacity) size l))
-
--- Searched for in tree n.
-module _ {o : Opening} {c : Counters} {size n : ℕ} (a : Aimed o c size n)
-    {shape : Shape} {t : List ℕ} (sound : Sound o shape (held t c)) (number : ℕ) where
-  places : length (leaves t (1024 * n) (shape .places)) ≡ shape .places
-  places = leaf-count shape t (sound .forest) n (tree-few a)
-
-  phase-still : phaseAfter n (c .phase) < o .m
-  phase-still = rw (a .tree) (phase-below (c .phase) (o .m) (sizeClass (o .capacity) size) (a .phase))
-
-  sound-after : {u : List ℕ} (opened : ℕ) → opened ≤ o .stock → Forest shape u → Sound o shape (held u (accepting n opened c))
-  sound-after opened l f = record { forest = f; stock = sound .stock; within = l; phase = phase-still }
-
-  pub done-found : {i : ℕ} {u : List ℕ} → Lowest size (leaves t (1024 * n) (shape .places)) i
-      → Shown shape t (home n) (leb n 1) i (shownAt t (shape .places) n i - size) u
-      → Done o shape (held t c) number (Shelve size) (answerOf number (Placed (i + 1))) (held u (accepting n (c .opened) c))
-  done-found f d = record {
-    sound = sound-after (c .opened) (sound .within) (d .forest);
-    numbered = refl;
-    model = λ p r. found-modelled a r (omega (arith, f .inside, places)) f d;
+    model = λ p r. modelled r (w .model p r);
     items = refl;
-    refused = λ reason e. absurd (placed-not-refused e);
+    refused = λ reason e. clash (cc);
   }
-
-  -- Nothing found.
-  module _ (f : Lacking size (leaves t (1024 * n) (shape .places))) where
-    lacking : (j : ℕ) → j < shape .places → shownAt t (shape .places) n j < size
-    lacking j l = f j (omega (arith, places))
-
-    room : c .opened ≤ shape .places
-    room = omega (arith, sound .within, sound .stock)
-
-    pub done-spent : o .stock ≤ c .opened → Done o shape (held t c) number (Shelve size) (answerOf number (Refused StockSpent)) (held t c)
-    done-spent l = done-refused o shape (held t c) number size sound StockSpent (λ p r. spent-outcome a r lacking room l)
-
-    pub done-new : {u : List ℕ} → c .opened < o .stock → Shown shape t (home n) (eqb n 1) (c .opened) (o .capacity - size) u
-        → Done o shape (held t c) number (Shelve size) (answerOf number (Placed (c .opened + 1)))
-        (held u (accepting n (c .opened + 1) c))
-    done-new l d = record {
-      sound = sound-after (c .opened + 1) (omega arith) (d .forest);
-      numbered = refl;
-      model = λ p r. new-modelled a r lacking room l (omega (arith, sound .stock)) d;
-      items = refl;
-      refused = λ reason e. absurd (placed-not-refused e);
-    }
 
 -- A count: the store stays.
-pub counting : (c : Counters) (number : ℕ) → Counting c number (answerOf number (Counted (c .opened)))
-counting c number = record { counted = refl; model = λ o shape trees p r. rw (r .bins) }
+pub counting : {c : Counters} {number : ℕ} → Counting c number (answering number (Counted (c .opened)))
+counting = record { counted = refl; model = λ o shape trees p r. rw (r .bins) }
 
-pub done-count : (o : Opening) (shape : Shape) (s : Store) (number : ℕ) (r : Answer) → Sound o shape s → Counting (s .counters) number r
-    → Done o shape s number Count r s
-done-count o shape s number r sound m = record {
+pub done-count : {o : Opening} {shape : Shape} {w : Store} {number : ℕ} {r : Answer} → Sound o shape w → Counting (w .counters) number r
+    → Done o shape w number Count r w
+done-count {o} {shape} {w} sound m = record {
   sound = sound;
   numbered = ap (λ (x : Answer). x .number) (m .counted);
-  model = λ p w. record { answered = ap (λ (x : Answer). x .outcome) (m .model o shape (s .trees) p w); represents = w };
-  items = omega arith;
-  refused = λ reason e. absurd (counted-not-refused (sym (ap (λ (x : Answer). x .outcome) (m .counted)) ∙ e));
+  model = λ p q. record { answered = ap (λ (x : Answer). x .outcome) (m .model o shape (w .trees) p q); represents = q };
+  items = rw (m .counted) (omega arith);
+  refused = λ reason e. refl;
 }

@@ -9,21 +9,23 @@ use Rattle.packing.specs.declared.Outcome.the-variants.{Counted, Refused}
 use Rattle.packing.specs.Bins.{Packing}
 use Rattle.packing.specs.Run.{answerTo, next, placement}
 use Rattle.tournament.specs.declared.Shape.{Shape}
-use Rattle.engine.specs.declared.{Counters.Counters, Step.Step}
+use Rattle.aim.specs.declared.Counters.{Counters}
+use Rattle.engine.specs.declared.Answered.{Answered}
 use Rattle.engine.specs.Store.{Store, held, Sound, Represents}
 
 -- "An answer joins the command's number with placed, counted or refused."
-abbrev pub answerOf : ℕ → Outcome → Answer
-answerOf number a = record { number = number; outcome = a }
+abbrev pub answering : ℕ → Outcome → Answer
+answering number a = record { number = number; outcome = a }
 
-abbrev pub stepOf : ℕ → Outcome → Counters → Step
-stepOf number a c = record { answer = answerOf number a; next = c }
+-- with the counters after it
+abbrev pub giving : ℕ → Outcome → Counters → Answered
+giving number a c = record { answer = answering number a; next = c }
 
 -- The count of bins opened is the model's, at every packing of every store with these counters.
 pub record Counting (c : Counters) (number : ℕ) (r : Answer) : Type 0 where
-  pub counted : r ≡ answerOf number (Counted (c .opened))
+  pub counted : r ≡ answering number (Counted (c .opened))
   pub model : (o : Opening) (shape : Shape) (trees : List ℕ) (p : Packing) → Represents o shape (held trees c) p
-      → r ≡ answerOf number (answerTo o p Count)
+      → r ≡ answering number (answerTo o p Count)
 
 pub record Modelled (o : Opening) (shape : Shape) (command : Command) (a : Outcome) (u : Store) (p : Packing) : Type 0 where
   pub answered : a ≡ answerTo o p command

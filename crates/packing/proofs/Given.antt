@@ -1,22 +1,23 @@
 -- Document 01's numbers give a refusal back, so results that give the same are the same; and the words give the outcomes back, beside their commands.
-use Prim.Native.Nat.{ℕ, _+_, _-_, _≤_, max}
+use Prim.Native.Nat.{ℕ, suc, _+_, _-_, _≤_}
 use mathlib.Core.Path.{_≡_, refl, sym, ap, _∙_}
-use mathlib.Core.Bool.{Bool, true, false}
-use mathlib.Core.List.{List, [], _∷_, _++_, map, zipWith, flatten}
+use mathlib.Core.List.{List, [], _∷_, map, zipWith}
 use native.Mathlib.Omega.{arith}
 use borrow.Author.Tests.{lt-ltb, le-ltb}
-use lib.Dec.{eqb, ltb}
-use Rattle.packing.specs.Prelude.{if_then_else_, greatest, Opening, Command, Shelve, Count, Outcome, Placed, Counted, Refused, ItemReason, SizeZero, AboveCapacity, StockSpent}
+use lib.Dec.{eqb}
+use Rattle.packing.specs.Prelude.{if_then_else_, Opening, Command, Shelve, Count, Outcome, Placed, Counted, Refused, ItemReason, SizeZero, AboveCapacity, StockSpent}
 use Rattle.packing.specs.Prelude.{StreamReason, NoOpening, UnknownOpcode, CutShort, SecondOpening, OutsideLimits, TooManyCommands, TooFewWords, StreamResult}
 use Rattle.packing.specs.Prelude.{PlanReason, CapacityOutside, TooLong, SizeOutside, BinOutside, Overfull, OtherItems, PlanResult}
 use Rattle.packing.specs.Refusals.{streamNumber, itemNumber, planNumber, word, itemReason, outcomeOf}
-use Rattle.packing.specs.Bins.{Item, Packing, empty, opened}
-use Rattle.packing.specs.Placing.{binFor, spent, outcome}
-use Rattle.packing.specs.Run.{item, placement, answerTo, next, outcomesFrom}
+use Rattle.packing.specs.Bins.{Packing, empty}
+use Rattle.packing.specs.Placing.{Decision, binFor, decision}
+use Rattle.packing.specs.Run.{item, told, answerTo, next, runFrom}
 use Rattle.packing.specs.Claims.{StreamGivesBack, PlanGivesBack, WordsGiveBack}
 use Rattle.packing.proofs.Limits.{in-limits}
-use Rattle.packing.proofs.Trace.{trace-from}
-use Rattle.packing.proofs.Numbers.{trace-opened, trace-in-stock}
+use Rattle.packing.proofs.Tests.{clash}
+use Rattle.packing.proofs.Decided.{Decided, goes-in, is-zero, is-above, is-spent, decided}
+use Rattle.packing.proofs.Moves.{move}
+use Rattle.packing.proofs.Reached.{in-stock, Reached, reached-move, reached}
 
 -- The refusal of a number, and that it is the one that has it.
 streamReason : (number : ℕ) → StreamReason
@@ -71,61 +72,64 @@ plan-number-back r s e = sym (plan-reason r) ∙ ap planReason e ∙ plan-reason
 
 pub stream-gives-back : StreamGivesBack
 stream-gives-back (StreamResult.Accepted items opened) (StreamResult.Accepted items′ opened′) e = cc
-stream-gives-back (StreamResult.Accepted items opened) (StreamResult.Refused reason offset) e = absurd (let z : _≡_ {A = ℕ} 0 1 = cc in omega arith)
-stream-gives-back (StreamResult.Refused reason offset) (StreamResult.Accepted items opened) e = absurd (let z : _≡_ {A = ℕ} 0 1 = cc in omega arith)
+stream-gives-back (StreamResult.Accepted items opened) (StreamResult.Refused reason offset) e = clash (cc)
+stream-gives-back (StreamResult.Refused reason offset) (StreamResult.Accepted items opened) e = clash (cc)
 stream-gives-back (StreamResult.Refused reason offset) (StreamResult.Refused reason′ offset′) e =
     let same : streamNumber reason ≡ streamNumber reason′ = cc in cc (stream-number-back reason reason′ same)
 
 pub plan-gives-back : PlanGivesBack
 plan-gives-back PlanResult.Passed PlanResult.Passed e = refl
-plan-gives-back PlanResult.Passed (PlanResult.Refused reason place) e = absurd (let z : _≡_ {A = ℕ} 0 1 = cc in omega arith)
-plan-gives-back (PlanResult.Refused reason place) PlanResult.Passed e = absurd (let z : _≡_ {A = ℕ} 0 1 = cc in omega arith)
+plan-gives-back PlanResult.Passed (PlanResult.Refused reason place) e = clash (cc)
+plan-gives-back (PlanResult.Refused reason place) PlanResult.Passed e = clash (cc)
 plan-gives-back (PlanResult.Refused reason place) (PlanResult.Refused reason′ place′) e =
     let same : planNumber reason ≡ planNumber reason′ = cc in cc (plan-number-back reason reason′ same)
 
--- A size is never answered by a count.
-pub never-counted : (o : Opening) (p : Packing) (i : Item) (n : ℕ) {A : Type 0} → outcome o p i ≡ Counted n → A
-unfolding outcome
-never-counted o p i n = go (eqb (i .size) 0) (ltb (o .capacity) (i .size)) (spent o p i)
-  where
-    go : (a b d : Bool) {A : Type 0}
-        → (if a then Refused SizeZero else if b then Refused AboveCapacity else if d then Refused StockSpent else Placed (binFor o p i)) ≡ Counted n → A
-    go true b d h = absurd (let z : _≡_ {A = ℕ} 0 1 = cc in omega arith)
-    go false true d h = absurd (let z : _≡_ {A = ℕ} 0 1 = cc in omega arith)
-    go false false true h = absurd (let z : _≡_ {A = ℕ} 0 1 = cc in omega arith)
-    go false false false h = absurd (let z : _≡_ {A = ℕ} 0 1 = cc in omega arith)
+-- How large they are.
+pub item-number-few : (reason : ItemReason) → itemNumber reason ≤ 10
+item-number-few SizeZero = omega arith
+item-number-few AboveCapacity = omega arith
+item-number-few StockSpent = omega arith
 
--- In a packing whose bins are in stock.
-module _ (o : Opening) (stock : o .stock ≤ 512) (p : Packing) (few : opened p ≤ o .stock) where
-  -- The bins after a command are in stock too.
-  pub next-in-stock : (c : Command) → opened (next o p c) ≤ o .stock
-  next-in-stock c = trace-in-stock o (trace-from o (c ∷ []) p) few
+pub stream-number-few : (reason : StreamReason) → streamNumber reason ≤ 7
+stream-number-few NoOpening = omega arith
+stream-number-few UnknownOpcode = omega arith
+stream-number-few CutShort = omega arith
+stream-number-few SecondOpening = omega arith
+stream-number-few OutsideLimits = omega arith
+stream-number-few TooManyCommands = omega arith
+stream-number-few TooFewWords = omega arith
 
-  pub placed-in-stock : (s bin : ℕ) → outcome o p (item s) ≡ Placed bin → bin ≤ o .stock
-  unfolding flatten zipWith outcomesFrom greatest
-  placed-in-stock s bin e =
-      let bins = trace-opened o (trace-from o (Shelve s ∷ []) p) in
-      let seen : opened (next o p (Shelve s)) ≡ max (opened p) (greatest (map (λ e. e .bin) (placement (Shelve s) (Placed bin) ++ []))) =
-      bins ∙ ap (λ a. max (opened p) (greatest (map (λ e. e .bin) (placement (Shelve s) a ++ [])))) e in
-      omega (arith, seen, next-in-stock (Shelve s))
+-- What the answer to a command can be, in a packing that commands can reach: a bin or a count within the stock, or a refusal.
+module _ (o : Opening) (p : Packing) (h : Reached o p) where
+  pub data Told : Command → Outcome → Type 0 where
+    placed-in : {s bin : ℕ} → bin ≤ o .stock → Told (Shelve s) (Placed bin)
+    counted : {n : ℕ} → n ≤ o .stock → Told Count (Counted n)
+    refused : {s : ℕ} {reason : ItemReason} → Told (Shelve s) (Refused reason)
+
+  pub told-to : (c : Command) → Told c (answerTo o p c)
+  told-to Count = counted (h .stock-lasts)
+  told-to (Shelve s) = go (decision o p (item s)) (decided o p (item s))
+    where
+      go : (d : Decision) → Decided o p (item s) d → Told (Shelve s) (told d)
+      go d (goes-in i) = placed-in {bin = binFor o p (item s)} (omega (arith, in-stock o p (item s) (i .not-spent) (h .stock-lasts)))
+      go d (is-zero e) = refused
+      go d (is-above l m) = refused
+      go d (is-spent l m z) = refused
 
   -- A bin's number is below 32,768, so the word tells it from a refusal.
-  pub word-gives-back : (c : Command) → outcomeOf c (word (answerTo o p c)) ≡ answerTo o p c
-  word-gives-back Count = refl
-  word-gives-back (Shelve s) = go (outcome o p (item s)) refl
-    where
-      go : (a : Outcome) → outcome o p (item s) ≡ a → outcomeOf (Shelve s) (word a) ≡ a
-      go (Placed bin) e = rw (lt-ltb bin 32_768 (omega (arith, placed-in-stock s bin e)))
-      go (Counted n) e = never-counted o p (item s) n e
-      go (Refused reason) e =
-          let k : 32_768 + itemNumber reason - 32_768 ≡ itemNumber reason = omega arith in
-          rw (le-ltb (32_768 + itemNumber reason) 32_768 (omega arith), k, item-reason)
+  pub word-gives-back : o .stock ≤ 512 → (c : Command) (a : Outcome) → Told c a → outcomeOf c (word a) ≡ a
+  word-gives-back most c a (placed-in {bin = bin} l) = rw (lt-ltb bin 32_768 (omega arith))
+  word-gives-back most c a (counted l) = refl
+  word-gives-back most c a (refused {reason = reason}) =
+      let k : 32_768 + itemNumber reason - 32_768 ≡ itemNumber reason = omega arith in
+      rw (le-ltb (32_768 + itemNumber reason) 32_768 (omega arith), k, item-reason)
 
-words-from : (o : Opening) → o .stock ≤ 512 → (cs : List Command) (p : Packing) → opened p ≤ o .stock
-    → zipWith outcomeOf cs (map word (outcomesFrom o p cs)) ≡ outcomesFrom o p cs
-unfolding zipWith outcomesFrom
-words-from o stock [] p few = refl
-words-from o stock (c ∷ cs) p few = rw (word-gives-back o stock p few c, words-from o stock cs (next o p c) (next-in-stock o stock p few c))
+words-from : (o : Opening) → o .stock ≤ 512 → (cs : List Command) (p : Packing) (n : ℕ) → Reached o p
+    → zipWith outcomeOf cs (map word (map (λ t. t .outcome) (runFrom o p n cs))) ≡ map (λ t. t .outcome) (runFrom o p n cs)
+unfolding zipWith runFrom
+words-from o stock [] p n h = refl
+words-from o stock (c ∷ cs) p n h =
+    rw (word-gives-back o p h stock c (answerTo o p c) (told-to o p h c), words-from o stock cs (next o p c) (suc n) (reached-move o (move o p c) h))
 
 pub words-give-back : (o : Opening) (cs : List Command) → WordsGiveBack o cs
-words-give-back o cs good = words-from o (in-limits o good .stock .1) cs empty (omega arith)
+words-give-back o cs good = words-from o (in-limits o good .stock .1) cs empty 1 (reached o [])

@@ -1,20 +1,20 @@
 -- Bin n holds the items answered n: each item of the trace goes to the bin of the number that it is answered. So what is answered n is no larger than
 -- the capacity.
 use Prim.Native.Nat.{ℕ, zero, suc, _+_, _≤_}
-use mathlib.Core.Path.{_≡_, refl, sym, ap, _∙_}
+use mathlib.Core.Path.{_≡_, refl, ap, _∙_}
 use mathlib.Core.Bool.{Bool, true, false}
-use mathlib.Core.List.{List, [], _∷_, map, reverseAux, List·Memᴰ, List·Memᴰ·head, List·Memᴰ·tail, List·Memᴰ·not-nil}
+use mathlib.Core.List.{List, [], _∷_, map, flatten, reverseAux, List·Memᴰ, List·Memᴰ·head, List·Memᴰ·tail}
 use native.Mathlib.Omega.{arith}
 use lib.Dec.{eqb, eqb·zero-suc, eqb·suc-zero, eqb·suc-suc}
 use lib.ListN.{getD}
-use Rattle.packing.specs.Prelude.{if_then_else_, total, keep, Opening, Entry}
+use Rattle.packing.specs.Prelude.{if_then_else_, total, keep, Opening, Command, Entry}
 use Rattle.packing.specs.Bins.{Item, Bin, Packing, empty, load, itemsOf, add}
 use Rattle.packing.specs.Placing.{firstFit, put, target, classOf, takes, binFor, placed}
-use Rattle.packing.specs.Run.{item}
+use Rattle.packing.specs.Run.{item, Step, entriesOf, packing, placements}
 use Rattle.packing.specs.Compared.{sizesIn}
 use Rattle.packing.proofs.Putting.{fresh}
-use Rattle.packing.proofs.Trace.{Trace, ends, places}
-use Rattle.packing.proofs.Reached.{trace-sound}
+use Rattle.packing.proofs.Moves.{places, stays, Trace, ends, moves, trace}
+use Rattle.packing.proofs.Reached.{reached}
 
 -- The items of the bin with so many before it.
 abbrev itemsAt : (before : ℕ) → List Bin → List Item
@@ -55,15 +55,18 @@ module _ (o : Opening) where
   sizesOf n p = map (λ i. i .size) (itemsOf n p)
 
   -- In the order of the entries, onto what the bin held before.
-  pub trace-items : (n : ℕ) {p q : Packing} {es : List Entry} → Trace o p es q → sizesOf n q ≡ reverseAux (sizesIn n es) (sizesOf n p)
-  unfolding keep
+  pub trace-items : (n : ℕ) {p q : Packing} {ts : List Step} → Trace o p ts q → sizesOf n q ≡ reverseAux (sizesIn n (entriesOf ts)) (sizesOf n p)
+  unfolding keep flatten
   trace-items n ends = refl
-  trace-items n (places {p = p} {q = q} {s = s} {bin = bin} {es = es} a r) =
-      trace-items n r ∙ ap (λ items. reverseAux (sizesIn n es) (map (λ i. i .size) items)) (placed-items n p s)
-      ∙ ap (λ k. reverseAux (sizesIn n es) (map (λ i. i .size) (grown (eqb k n) (item s) (itemsOf n p)))) (sym (a .its-bin)) ∙ go (eqb bin n)
+  trace-items n (moves (stays e) r) = rw e (trace-items n r)
+  trace-items n (moves {p = p} {ts = ts} (places {s = s} a) r) =
+      trace-items n r ∙ ap (λ items. reverseAux (sizesIn n (entriesOf ts)) (map (λ i. i .size) items)) (placed-items n p s) ∙ go (eqb (binFor o p (item s)) n)
     where
-      go : (t : Bool) → reverseAux (sizesIn n es) (map (λ i. i .size) (grown t (item s) (itemsOf n p)))
-          ≡ reverseAux (map (λ e. e .size) (if t then (record { size = s; bin = bin }) ∷ keep (λ e. eqb (e .bin) n) es else keep (λ e. eqb (e .bin) n) es)) (sizesOf n p)
+      later : List Entry
+      later = keep (λ e. eqb (e .bin) n) (entriesOf ts)
+
+      go : (t : Bool) → reverseAux (map (λ e. e .size) later) (map (λ i. i .size) (grown t (item s) (itemsOf n p)))
+          ≡ reverseAux (map (λ e. e .size) (if t then record { size = s; bin = binFor o p (item s) } ∷ later else later)) (sizesOf n p)
       go true = refl
       go false = refl
 
@@ -84,13 +87,12 @@ unfolding total
 total-reversed [] ys = omega arith
 total-reversed (x ∷ xs) ys = omega (arith, total-reversed xs (x ∷ ys))
 
--- So of the empty packing on, what is answered n is no larger than the capacity.
-pub trace-shown : (o : Opening) (n : ℕ) {q : Packing} {es : List Entry} → Trace o empty es q → total (sizesIn n es) ≤ o .capacity
+-- So what is answered n is no larger than the capacity.
+pub shown-few : (o : Opening) (cs : List Command) (n : ℕ) → total (sizesIn n (placements o cs)) ≤ o .capacity
 unfolding total
-trace-shown o n {q} {es} r =
-    let few = items-most (o .capacity) n q (λ b m. trace-sound o r (λ x y. absurd (List·Memᴰ·not-nil y)) b m .not-overfull) in
-    let none : total (map (λ i. i .size) (itemsOf n empty)) ≡ 0 = none-in n in
-    omega (arith, few, ap total (trace-items o n r), total-reversed (sizesIn n es) (map (λ i. i .size) (itemsOf n empty)))
+shown-few o cs n =
+    let few = items-most (o .capacity) n (packing o cs) (λ b m. reached o cs .bins-sound b m .not-overfull) in
+    omega (arith, few, ap total (trace-items o n (trace o cs)), total-reversed (sizesIn n (placements o cs)) (map (λ i. i .size) (itemsOf n empty)), none-in n)
   where
     none-in : (n : ℕ) → total (map (λ i. i .size) (itemsOf n empty)) ≡ 0
     none-in zero = refl

@@ -1,23 +1,34 @@
--- What every bin is in a packing that commands can reach: not overfull, filled, and of the class of its items.
-use Prim.Native.Nat.{ℕ, suc, _+_, _%_, _≤_}
+-- What every packing is that commands can reach: no more bins than the stock, each not overfull, filled, and of the class of its items.
+use Prim.Native.Nat.{ℕ, suc, _+_, _%_, _≤_, max}
 use mathlib.Core.Path.{_≡_, refl}
-use mathlib.Core.Bool.{Bool, true, false, _||_}
-use mathlib.Core.List.{List, List·Memᴰ, List·Memᴰ·not-nil}
+use mathlib.Core.Bool.{Bool, true, false, _&&_, _||_}
+use mathlib.Core.List.{List, [], _∷_, List·Memᴰ, List·Memᴰ·not-nil}
 use native.Mathlib.Omega.{arith}
-use borrow.Author.Tests.{leb-true}
-use lib.Dec.{eqb}
-use Rattle.packing.specs.Prelude.{if_then_else_, total, Opening, SizeClass, A, B1, B2, X, Entry}
-use Rattle.packing.specs.Bins.{Item, Bin, Packing, load, add, kind, holdsA}
-use Rattle.packing.specs.Placing.{toClass, besideA, classOf, targetOf, permitted, target, hasSpace, takes, placed}
-use Rattle.packing.specs.Run.{item}
-use Rattle.packing.specs.Claims.{belongs, SoundBin}
-use Rattle.packing.proofs.Tests.{both-true, each-cons}
-use Rattle.packing.proofs.Trace.{Trace, ends, places}
-use Rattle.packing.proofs.Putting.{fresh, put-each}
+use borrow.Author.Tests.{leb-true, leb-false, ltb-false}
+use lib.Dec.{eqb, ltb, leb}
+use lib.ListN.{length}
+use Rattle.packing.specs.Prelude.{if_then_else_, total, Opening, SizeClass, A, B1, B2, X, Command, Outcome}
+use Rattle.packing.specs.Bins.{Item, Bin, Packing, empty, opened, load, add, kind, holdsA}
+use Rattle.packing.specs.Placing.{toClass, besideA, classOf, firstFit, targetOf, permitted, target, hasSpace, takes, binFor, spent, placed}
+use Rattle.packing.specs.Run.{item, Step, packing}
+use Rattle.packing.specs.Claims.{mayLieIn, SoundBin}
+use Rattle.packing.proofs.Tests.{clash, both-true, each-cons}
+use Rattle.packing.proofs.Putting.{fresh, put-length, put-each}
+use Rattle.packing.proofs.Moves.{Move, places, stays, Trace, ends, moves, trace}
+
+-- First fit passes no more bins than there are.
+pub first-few : (test : Bin → Bool) (bins : List Bin) → firstFit test bins ≤ length bins
+unfolding firstFit
+first-few test [] = omega arith
+first-few test (b ∷ bs) = go (test b) (first-few test bs)
+  where
+    go : (t : Bool) → firstFit test bs ≤ length bs → (if t then 0 else suc (firstFit test bs)) ≤ suc (length bs)
+    go true r = omega arith
+    go false r = omega arith
 
 module _ (o : Opening) where
-  -- An item belongs to the class of a bin that it is permitted to join, and to the class of the bin that is opened for it.
-  joins-its-class : (n : ℕ) (k : SizeClass) (b : Bin) → permitted o (targetOf o n k) b ≡ true → belongs k (b .class) ≡ true
+  -- An item mayLieIn to the class of a bin that it is permitted to join, and to the class of the bin that is opened for it.
+  joins-its-class : (n : ℕ) (k : SizeClass) (b : Bin) → permitted o (targetOf o n k) b ≡ true → mayLieIn k (b .class) ≡ true
   joins-its-class n A b h = h
   joins-its-class n B1 b h = h
   joins-its-class n B2 b h = go (eqb (suc n % o .m) 0) h
@@ -31,12 +42,12 @@ module _ (o : Opening) where
       go false h = either (eqb (b .class) 1) (eqb (b .class) 3) h
   joins-its-class n X b h = h
 
-  opens-its-class : (n : ℕ) (k : SizeClass) → belongs k (classOf (targetOf o n k)) ≡ true
+  opens-its-class : (n : ℕ) (k : SizeClass) → mayLieIn k (classOf (targetOf o n k)) ≡ true
   opens-its-class n A = refl
   opens-its-class n B1 = refl
   opens-its-class n B2 = go (eqb (suc n % o .m) 0)
     where
-      go : (t : Bool) → belongs B2 (classOf (if t then besideA else toClass 3)) ≡ true
+      go : (t : Bool) → mayLieIn B2 (classOf (if t then besideA else toClass 3)) ≡ true
       go true = refl
       go false = refl
   opens-its-class n X = refl
@@ -49,7 +60,7 @@ module _ (o : Opening) where
         record {
           not-overfull = omega (arith, leb-true (load b + i .size) (o .capacity) (both .1));
           filled = omega arith;
-          in-class = each-cons (λ j. belongs (kind o j) (b .class) ≡ true) (joins-its-class (p .b2s) (kind o i) b (both .0)) (h .in-class);
+          in-class = each-cons (λ j. mayLieIn (kind o j) (b .class) ≡ true) (joins-its-class (p .b2s) (kind o i) b (both .0)) (h .in-class);
         }
 
     sound-opened : i .size ≤ o .capacity → SoundBin o (add i (fresh (classOf (target o p i))))
@@ -59,15 +70,46 @@ module _ (o : Opening) where
           not-overfull = omega arith;
           filled = omega arith;
           in-class =
-              each-cons (λ j. belongs (kind o j) (classOf (target o p i)) ≡ true) (opens-its-class (p .b2s) (kind o i))
+              each-cons (λ j. mayLieIn (kind o j) (classOf (target o p i)) ≡ true) (opens-its-class (p .b2s) (kind o i))
               (λ j m. absurd (List·Memᴰ·not-nil m));
         }
 
-  pub trace-sound : {p q : Packing} {es : List Entry} → Trace o p es q → ((b : Bin) → List·Memᴰ b (p .bins) → SoundBin o b)
-      → (b : Bin) → List·Memᴰ b (q .bins) → SoundBin o b
+    -- One more bin exactly where the number answered is new.
+    pub opened-placed : opened (placed o p i) ≡ max (opened p) (binFor o p i)
+    unfolding placed
+    opened-placed = put-length (takes o p i) (fresh (classOf (target o p i))) i (p .bins)
+
+    -- A new bin is opened only while the stock lasts.
+    pub in-stock : spent o p i ≡ false → opened p ≤ o .stock → max (opened p) (binFor o p i) ≤ o .stock
+    in-stock h l = go (ltb (opened p) (binFor o p i)) (leb (o .stock) (opened p)) refl refl h
+      where
+        go : (a b : Bool) → ltb (opened p) (binFor o p i) ≡ a → leb (o .stock) (opened p) ≡ b → (a && b) ≡ false → max (opened p) (binFor o p i) ≤ o .stock
+        go true true x y e = clash (cc)
+        go true false x y e = omega (arith, leb-false (o .stock) (opened p) y, first-few (takes o p i) (p .bins))
+        go false b x y e = omega (arith, ltb-false (opened p) (binFor o p i) x)
+
+  pub record Reached (p : Packing) : Type 0 where
+    pub bins-sound : (b : Bin) → List·Memᴰ b (p .bins) → SoundBin o b
+    pub stock-lasts : opened p ≤ o .stock
+
+  reached-empty : Reached empty
+  reached-empty = record { bins-sound = λ b m. absurd (List·Memᴰ·not-nil m); stock-lasts = omega arith }
+
+  -- Every move keeps it.
+  pub reached-move : {p q : Packing} {c : Command} {a : Outcome} → Move o p c a q → Reached p → Reached q
   unfolding placed
-  trace-sound ends h = h
-  trace-sound (places {p = p} {s = s} d r) h =
+  reached-move (stays e) h = h
+  reached-move {p = p} (places {s = s} d) h =
       let i = item s in
-      trace-sound r
-      (put-each (takes o p i) (fresh (classOf (target o p i))) i (SoundBin o) (sound-joined p i) (sound-opened p i (d .within-capacity)) (p .bins) h)
+      record {
+        bins-sound =
+            put-each (takes o p i) (fresh (classOf (target o p i))) i (SoundBin o) (sound-joined p i) (sound-opened p i (d .within-capacity)) (p .bins) (h .bins-sound);
+        stock-lasts = omega (arith, opened-placed p i, in-stock p i (d .not-spent) (h .stock-lasts));
+      }
+
+  trace-reached : {p q : Packing} {ts : List Step} → Trace o p ts q → Reached p → Reached q
+  trace-reached ends h = h
+  trace-reached (moves m r) h = trace-reached r (reached-move m h)
+
+  pub reached : (cs : List Command) → Reached (packing o cs)
+  reached cs = trace-reached (trace o cs) reached-empty

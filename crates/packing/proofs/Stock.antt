@@ -1,17 +1,19 @@
 -- Refusal 10: exactly when no permitted bin has space and the whole stock is opened.
 use Prim.Native.Nat.{ℕ, suc, _+_, _≤_, _<_}
-use mathlib.Core.Path.{_≡_, refl}
+use mathlib.Core.Path.{_≡_, refl, ap}
 use mathlib.Core.Bool.{Bool, true, false, _&&_, false≢true}
 use mathlib.Core.List.{List, [], _∷_, List·Memᴰ, List·Memᴰ·head, List·Memᴰ·tail, List·Memᴰ·not-nil}
 use native.Mathlib.Omega.{arith}
-use borrow.Author.Tests.{eqb-false, ltb-true, ltb-false, leb-true, leb-false, ne-eqb, le-ltb, lt-ltb, le-leb, lt-leb}
-use lib.Dec.{eqb, ltb, leb}
+use borrow.Author.Tests.{ltb-true, leb-true, leb-false, lt-ltb, le-leb, lt-leb}
+use lib.Dec.{ltb, leb}
 use lib.ListN.{length}
-use Rattle.packing.specs.Prelude.{if_then_else_, Opening, Placed, Refused, SizeZero, AboveCapacity, StockSpent}
+use Rattle.packing.specs.Prelude.{if_then_else_, Opening, Refused, StockSpent}
 use Rattle.packing.specs.Bins.{Item, Bin, Packing, opened, load}
-use Rattle.packing.specs.Placing.{firstFit, permitted, target, hasSpace, takes, binFor, spent, outcome}
+use Rattle.packing.specs.Placing.{Decision, firstFit, permitted, target, hasSpace, takes, binFor, decision}
+use Rattle.packing.specs.Run.{item, told}
 use Rattle.packing.specs.Claims.{Spent, SpentExactly}
-use Rattle.packing.proofs.Tests.{both-true, each-cons}
+use Rattle.packing.proofs.Tests.{clash, both-true, each-cons}
+use Rattle.packing.proofs.Decided.{Decided, goes-in, is-zero, is-above, is-spent, decided, decides}
 
 -- First fit passes all bins exactly when none takes the item.
 none-takes : (test : Bin → Bool) (bins : List Bin) → length bins ≤ firstFit test bins → (b : Bin) → List·Memᴰ b bins → test b ≡ false
@@ -45,36 +47,26 @@ module _ (o : Opening) (p : Packing) (i : Item) where
       go true e = lt-leb (load b + i .size) (o .capacity) (h e)
       go false e = refl
 
-  spent-only : outcome o p i ≡ Refused StockSpent → Spent o p i
-  unfolding outcome
-  spent-only = go (eqb (i .size) 0) (ltb (o .capacity) (i .size)) (spent o p i) refl refl refl
-    where
-      go : (a b d : Bool) → eqb (i .size) 0 ≡ a → ltb (o .capacity) (i .size) ≡ b → spent o p i ≡ d
-          → (if a then Refused SizeZero else if b then Refused AboveCapacity else if d then Refused StockSpent else Placed (binFor o p i)) ≡ Refused StockSpent
-          → Spent o p i
-      go true b d x y z h = absurd (let w : _≡_ {A = ℕ} 0 1 = cc in omega arith)
-      go false true d x y z h = absurd (let w : _≡_ {A = ℕ} 0 1 = cc in omega arith)
-      go false false false x y z h = absurd (let w : _≡_ {A = ℕ} 0 1 = cc in omega arith)
-      go false false true x y z h =
-          let both = both-true (ltb (opened p) (binFor o p i)) (leb (o .stock) (opened p)) z in
-          let new = ltb-true (opened p) (binFor o p i) (both .0) in
-          record {
-            some = omega (arith, eqb-false (i .size) 0 x);
-            within-capacity = ltb-false (o .capacity) (i .size) y;
-            no-space = λ b m. full b (none-takes (takes o p i) (p .bins) (omega arith) b m);
-            all-opened = leb-true (o .stock) (opened p) (both .1);
-          }
+  spent-only : (d : Decision) → Decided o p i d → told d ≡ Refused StockSpent → Spent o p i
+  spent-only d (goes-in h) e = clash (cc)
+  spent-only d (is-zero h) e = clash (cc)
+  spent-only d (is-above l m) e = clash (cc)
+  spent-only d (is-spent l m z) e =
+      let both = both-true (ltb (opened p) (binFor o p i)) (leb (o .stock) (opened p)) z in
+      let new = ltb-true (opened p) (binFor o p i) (both .0) in
+      record {
+        some = l;
+        within-capacity = m;
+        no-space = λ b k. full b (none-takes (takes o p i) (p .bins) (omega arith) b k);
+        all-opened = leb-true (o .stock) (opened p) (both .1);
+      }
 
-  spent-then : Spent o p i → outcome o p i ≡ Refused StockSpent
-  unfolding outcome
+  spent-then : Spent o p i → told (decision o p i) ≡ Refused StockSpent
   spent-then h =
       let all = passes-all (takes o p i) (p .bins) (λ b m. refuses b (h .no-space b m)) in
-      rw (
-        ne-eqb (i .size) 0 (λ e. omega (arith, h .some)),
-        le-ltb (o .capacity) (i .size) (h .within-capacity),
-        lt-ltb (opened p) (binFor o p i) (omega arith),
-        le-leb (o .stock) (opened p) (h .all-opened),
-      )
+      ap told
+      (decides o p i _
+      (is-spent (h .some) (h .within-capacity) (rw (lt-ltb (opened p) (binFor o p i) (omega arith), le-leb (o .stock) (opened p) (h .all-opened)))))
 
-  pub spent-exactly : SpentExactly o p i
-  spent-exactly = (spent-only, spent-then)
+pub spent-exactly : (o : Opening) (p : Packing) (s : ℕ) → SpentExactly o p s
+spent-exactly o p s = (spent-only o p (item s) (decision o p (item s)) (decided o p (item s)), spent-then o p (item s))

@@ -1,21 +1,21 @@
 -- The statements of ../specs/Claims.antt, proved.
-use Prim.Native.Nat.{ℕ, zero, suc}
+use Prim.Native.Nat.{zero, suc}
 use mathlib.Core.Path.{_≡_, ap, _∙_}
-use mathlib.Core.List.{List, [], _∷_, List·Memᴰ·not-nil}
+use mathlib.Core.List.{List, [], _∷_}
 use native.Mathlib.Omega.{arith}
 use lib.ListN.{take, length-map}
-use Rattle.packing.specs.Prelude.{total, Opening, Command}
+use Rattle.packing.specs.Prelude.{if_then_else_, total, Opening, Command}
+use Rattle.packing.specs.Refusals.{isRefused}
 use Rattle.packing.specs.Bins.{Packing, empty, opened}
-use Rattle.packing.specs.Placing.{after}
-use Rattle.packing.specs.Run.{item, packing, placements}
+use Rattle.packing.specs.Run.{done, packing, placements}
 use Rattle.packing.specs.Compared.{numberOpened}
 use Rattle.packing.specs.Claims.{HoldsAnswered, NeverOverfull, LoadsAddUp, Prefix, RefusedLeftOut, AnswersInRange, Counts, RefusedChangesNothing}
-use Rattle.packing.proofs.Trace.{trace}
-use Rattle.packing.proofs.Reached.{trace-sound}
-use Rattle.packing.proofs.Numbers.{trace-opened, trace-weight, trace-in-stock, trace-from-one, at-most-greatest}
-use Rattle.packing.proofs.Holding.{trace-items, trace-shown}
-use Rattle.packing.proofs.Prefixes.{prefix-from, count-from}
-use Rattle.packing.proofs.LeftOut.{resent-packing, resent-bins}
+use Rattle.packing.proofs.Moves.{trace}
+use Rattle.packing.proofs.Reached.{reached}
+use Rattle.packing.proofs.Numbers.{trace-opened, trace-weight, trace-entries, at-most-greatest}
+use Rattle.packing.proofs.Holding.{trace-items, shown-few}
+use Rattle.packing.proofs.Running.{prefix-from, count-from}
+use Rattle.packing.proofs.LeftOut.{kept-alike, resent-packing, resent-bins}
 pub use Rattle.packing.proofs.SizeClasses.{class-bounds, bounds-class}
 pub use Rattle.packing.proofs.Stock.{spent-exactly}
 pub use Rattle.packing.proofs.Accepted.{accepted-whole}
@@ -29,8 +29,8 @@ module _ (o : Opening) (cs : List Command) where
   pub never-overfull : NeverOverfull o cs
   never-overfull =
       record {
-        shown = λ j n. trace-shown o n (trace o (take j cs));
-        bins = λ j. trace-sound o (trace o (take j cs)) (λ b m. absurd (List·Memᴰ·not-nil m));
+        shown = λ j n. shown-few o (take j cs) n;
+        bins = λ j. reached o (take j cs) .bins-sound;
       }
 
   pub holds-answered : HoldsAnswered o cs
@@ -45,23 +45,30 @@ module _ (o : Opening) (cs : List Command) where
   prefix j = prefix-from o j 1 empty cs
 
   pub refused-left-out : RefusedLeftOut o cs
-  refused-left-out = record { same-packing = resent-packing o (trace o cs); same-bins = resent-bins o (trace o cs) }
+  refused-left-out =
+      let alike = kept-alike o cs empty 1 1 in
+      record {
+        same-packing = alike .same-packing;
+        same-outcomes = alike .same-outcomes;
+        alone-packing = resent-packing o (trace o cs);
+        alone-bins = resent-bins o 1 (trace o cs);
+      }
 
   pub answers-in-range : AnswersInRange o cs
   answers-in-range =
       record {
-        from-one = trace-from-one o (trace o cs);
+        from-one = λ e m. trace-entries o (trace o cs) e m .from-one;
         to-opened = at-most-greatest (λ e. e .bin) (placements o cs);
-        to-stock = omega (arith, opened-is o cs, trace-in-stock o (trace o cs) (omega arith));
+        to-stock = omega (arith, opened-is o cs, reached o cs .stock-lasts);
       }
 
   pub counts : Counts o cs
   counts =
       record {
         bins = opened-is o cs;
-        answered = λ j later e. count-from o j empty cs later e ∙ ap (λ n. n ∷ []) (opened-is o (take j cs));
+        answered = λ j later e. count-from o j 1 empty cs later e ∙ ap (λ n. n ∷ []) (opened-is o (take j cs));
         returned = rw (opened-is o cs, length-map);
       }
 
-pub refused-changes-nothing : (o : Opening) (p : Packing) (s : ℕ) → RefusedChangesNothing o p s
-refused-changes-nothing o p s reason e = ap (after o p (item s)) e
+pub refused-changes-nothing : (o : Opening) (p : Packing) (c : Command) → RefusedChangesNothing o p c
+refused-changes-nothing o p c reason e = ap (λ a. if isRefused a then p else done o p c) e

@@ -1,14 +1,15 @@
 -- What is promised of the model, as statements; ../proofs shows each of every opening and every list of commands. Demand 3 and the plan of a packing's
 -- own answers are stated in the crate worst_case.
 use Rattle.packing.specs.Prelude.{ℕ, _+_, _*_, _≤_, _<_, _≡_, _↔_, Bool, true, _||_, List, [], _∷_, map, zipWith, reverse, length, take, drop, List·Memᴰ, total, _=?_}
-use Rattle.packing.specs.Prelude.{Opening, SizeClass, A, B1, B2, X, Command, Shelve, Count, Refused, StockSpent, Entry, StreamResult, PlanResult}
+use Rattle.packing.specs.Prelude.{Opening, SizeClass, A, B1, B2, X, Command, Shelve, Count, Refused, ItemReason, StockSpent, Entry, StreamResult, PlanResult}
 use Rattle.packing.specs.Refusals.{word, outcomeOf, figures, streamGives, planGives}
 use Rattle.packing.specs.Bins.{Item, Bin, Packing, opened, load, itemsOf, kind}
-use Rattle.packing.specs.Placing.{permitted, target, outcome}
+use Rattle.packing.specs.Placing.{permitted, target}
 use Rattle.packing.specs.Limits.{openingGood, mostCommands}
 use Rattle.packing.specs.Streams.{openingLength, behindOpening, accepted, commands, verdict}
-use Rattle.packing.specs.Run.{item, next, packing, outcomes, answers, placements, result}
+use Rattle.packing.specs.Run.{item, answerTo, next, packing, outcomes, answers, placements, result}
 use Rattle.packing.specs.Compared.{acceptedSizes, numberOpened, sizesIn}
+use Rattle.packing.specs.LeftOut.{kept, outcomesKept}
 
 -- The inequalities of each size class: the tests before it failed.
 abbrev pub Bounds : (c s : ℕ) → SizeClass → Type 0
@@ -18,17 +19,17 @@ Bounds c s B2 = (5 * s ≤ 2 * c) × (c < 3 * s)
 Bounds c s X = 3 * s ≤ c
 
 -- The bins that an item of a size class may lie in, by their class.
-abbrev pub belongs : SizeClass → (class : ℕ) → Bool
-belongs A n = n =? 1
-belongs B1 n = n =? 2
-belongs B2 n = (n =? 1) || (n =? 3)
-belongs X n = n =? 4
+abbrev pub mayLieIn : SizeClass → (class : ℕ) → Bool
+mayLieIn A n = n =? 1
+mayLieIn B1 n = n =? 2
+mayLieIn B2 n = (n =? 1) || (n =? 3)
+mayLieIn X n = n =? 4
 
 -- What every bin is that was ever opened.
 pub record SoundBin (o : Opening) (b : Bin) : Type 0 where
   pub not-overfull : load b ≤ o .capacity
   pub filled : 1 ≤ length (b .items)
-  pub in-class : (i : Item) → List·Memᴰ i (b .items) → belongs (kind o i) (b .class) ≡ true
+  pub in-class : (i : Item) → List·Memᴰ i (b .items) → mayLieIn (kind o i) (b .class) ≡ true
 
 module _ (o : Opening) (cs : List Command) where
   -- After each command bin n holds the items answered n, in the stream's order, and no others. (The last item of a bin stands first.)
@@ -49,10 +50,13 @@ module _ (o : Opening) (cs : List Command) where
   abbrev pub Prefix : Type 0
   Prefix = (j : ℕ) → take j (answers o cs) ≡ answers o (take j cs)
 
-  -- The accepted items lie as they would if the refused ones had not been sent.
+  -- The accepted items lie as they would if the refused ones had not been sent, and every other command is answered as it was; so they do if the
+  -- accepted items alone had been sent.
   pub record RefusedLeftOut : Type 0 where
-    pub same-packing : packing o (map Shelve (acceptedSizes o cs)) ≡ packing o cs
-    pub same-bins : placements o (map Shelve (acceptedSizes o cs)) ≡ placements o cs
+    pub same-packing : packing o (kept o cs) ≡ packing o cs
+    pub same-outcomes : outcomes o (kept o cs) ≡ outcomesKept o cs
+    pub alone-packing : packing o (map Shelve (acceptedSizes o cs)) ≡ packing o cs
+    pub alone-bins : placements o (map Shelve (acceptedSizes o cs)) ≡ placements o cs
 
   -- A bin number answered is at most the number opened, which is at most the stock.
   pub record AnswersInRange : Type 0 where
@@ -77,19 +81,19 @@ PlanGivesBack = (r s : PlanResult) → planGives r ≡ planGives s → r ≡ s
 abbrev pub WordsGiveBack : Opening → List Command → Type 0
 WordsGiveBack o cs = openingGood o ≡ true → zipWith outcomeOf cs (map word (outcomes o cs)) ≡ outcomes o cs
 
--- What no stream refusal leaves of a stream and its row: an opening within its limits, a whole command at every place after it, and no more
--- commands than 4,096 and than the row has words.
-pub record Whole (stream row : List ℕ) (o : Opening) (cs : List Command) : Type 0 where
+-- What no stream refusal leaves of a stream for which so many words are lent: an opening within its limits, a whole command at every place after
+-- it, and no more commands than 4,096 and than there are words.
+pub record WholeStream (stream : List ℕ) (words : ℕ) (o : Opening) (cs : List Command) : Type 0 where
   pub opening-good : openingGood o ≡ true
   pub opening-first : take 1 stream ≡ 0x01 ∷ []
   pub opening-whole : openingLength ≤ length stream
   pub commands-whole : commands o mostCommands openingLength (behindOpening stream) ≡ accepted o cs
   pub commands-few : length cs ≤ mostCommands
-  pub row-enough : length cs ≤ length row
+  pub words-enough : length cs ≤ words
 
 -- An accepted stream is whole.
-abbrev pub AcceptedWhole : (stream row : List ℕ) (o : Opening) (cs : List Command) → Type 0
-AcceptedWhole stream row o cs = verdict stream row ≡ accepted o cs → Whole stream row o cs
+abbrev pub AcceptedWhole : (stream : List ℕ) (words : ℕ) (o : Opening) (cs : List Command) → Type 0
+AcceptedWhole stream words o cs = verdict stream words ≡ accepted o cs → WholeStream stream words o cs
 
 -- A new bin is called for and the stock is spent: no permitted bin has space, and the whole stock is opened.
 pub record Spent (o : Opening) (p : Packing) (i : Item) : Type 0 where
@@ -99,9 +103,9 @@ pub record Spent (o : Opening) (p : Packing) (i : Item) : Type 0 where
   pub all-opened : o .stock ≤ opened p
 
 -- Refused with 10 exactly then; in the order 8, 9, 10 the other two are refused before.
-abbrev pub SpentExactly : Opening → Packing → Item → Type 0
-SpentExactly o p i = (outcome o p i ≡ Refused StockSpent) ↔ Spent o p i
+abbrev pub SpentExactly : Opening → Packing → (size : ℕ) → Type 0
+SpentExactly o p s = (answerTo o p (Shelve s) ≡ Refused StockSpent) ↔ Spent o p (item s)
 
--- A refused item changes nothing.
-abbrev pub RefusedChangesNothing : Opening → Packing → ℕ → Type 0
-RefusedChangesNothing o p s = (reason : _) → outcome o p (item s) ≡ Refused reason → next o p (Shelve s) ≡ p
+-- A refused command changes nothing.
+abbrev pub RefusedChangesNothing : Opening → Packing → Command → Type 0
+RefusedChangesNothing o p c = (reason : ItemReason) → answerTo o p c ≡ Refused reason → next o p c ≡ p

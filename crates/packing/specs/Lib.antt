@@ -9,5 +9,6 @@ pub mod Streams
 pub mod Run
 pub mod Plans
 pub mod Compared
+pub mod LeftOut
 pub mod Claims
 pub mod Worked

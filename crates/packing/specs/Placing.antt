@@ -1,6 +1,6 @@
 -- "Where a master goes": Refined First-Fit, one item at a time.
 use Rattle.packing.specs.Prelude.{ℕ, suc, _+_, _%_, Bool, _&&_, List, [], _∷_, _=?_, _≤?_, _<?_, if_then_else_, Opening}
-use Rattle.packing.specs.Prelude.{SizeClass, A, B1, B2, X, Outcome, Placed, Counted, Refused, SizeZero, AboveCapacity, StockSpent}
+use Rattle.packing.specs.Prelude.{SizeClass, A, B1, B2, X, ItemReason, SizeZero, AboveCapacity, StockSpent}
 use Rattle.packing.specs.SizeClasses.{countB2}
 use Rattle.packing.specs.Bins.{Item, Bin, Packing, opened, load, add, kind, holdsA}
 
@@ -12,6 +12,11 @@ pub data Target : Type 0 where
 abbrev pub classOf : Target → ℕ
 classOf (toClass n) = n
 classOf besideA = 1
+
+-- What is decided of an item: the number of its bin, or why it is refused.
+pub data Decision : Type 0 where
+  into : (bin : ℕ) → Decision
+  refusing : ItemReason → Decision
 
 -- How many bins stand before the first that takes an item: all of them, if none does.
 unfoldable pub firstFit : (Bin → Bool) → List Bin → ℕ
@@ -56,12 +61,12 @@ module _ (o : Opening) where
     spent = (opened p <? binFor) && (o .stock ≤? opened p)
 
     -- For one item the order is 8, 9, 10.
-    unfoldable pub outcome : Outcome
-    outcome =
-        if i .size =? 0 then Refused SizeZero else
-        if o .capacity <? i .size then Refused AboveCapacity else
-        if spent then Refused StockSpent else
-        Placed binFor
+    unfoldable pub decision : Decision
+    decision =
+        if i .size =? 0 then refusing SizeZero else
+        if o .capacity <? i .size then refusing AboveCapacity else
+        if spent then refusing StockSpent else
+        into binFor
 
     -- An accepted B2 is counted, in whichever class it lies.
     unfoldable pub placed : Packing
@@ -69,9 +74,3 @@ module _ (o : Opening) where
       bins = put takes (record { class = classOf target; items = [] }) i (p .bins);
       b2s = p .b2s + countB2 (kind o i);
     }
-
-    -- A refused item leaves loads, classes and the B2 count as they were.
-    abbrev pub after : Outcome → Packing
-    after (Placed bin) = placed
-    after (Counted opened) = p
-    after (Refused reason) = p

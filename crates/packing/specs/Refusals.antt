@@ -1,5 +1,5 @@
 -- "What a refusal gives": the number of each refusal, the answer word of an outcome, and what a result gives in document 01's numbers.
-use Rattle.packing.specs.Prelude.{ℕ, _+_, _-_, List, [], _∷_, _=?_, _<?_, if_then_else_, Command, Shelve, Count, StreamResult, PlanResult}
+use Rattle.packing.specs.Prelude.{ℕ, _+_, _-_, Bool, true, false, List, [], _∷_, _=?_, _<?_, if_then_else_, Command, Shelve, Count, StreamResult, PlanResult}
 use Rattle.packing.specs.Prelude.{Outcome, Placed, Counted, Refused, ItemReason, SizeZero, AboveCapacity, StockSpent}
 use Rattle.packing.specs.Prelude.{StreamReason, NoOpening, UnknownOpcode, CutShort, SecondOpening, OutsideLimits, TooManyCommands, TooFewWords}
 use Rattle.packing.specs.Prelude.{PlanReason, CapacityOutside, TooLong, SizeOutside, BinOutside, Overfull, OtherItems}
@@ -25,6 +25,11 @@ planNumber SizeOutside = 13
 planNumber BinOutside = 14
 planNumber Overfull = 15
 planNumber OtherItems = 16
+
+abbrev pub isRefused : Outcome → Bool
+isRefused (Placed bin) = false
+isRefused (Counted opened) = false
+isRefused (Refused reason) = true
 
 -- "Word n holds the cartridge number or the count for command n, or 32,768 plus the refusal number."
 abbrev pub word : Outcome → ℕ

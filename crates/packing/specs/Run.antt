@@ -1,52 +1,79 @@
 -- What an accepted stream does: each command gets the packing that the one before it left, the first the empty one.
-use Rattle.packing.specs.Prelude.{ℕ, suc, List, [], _∷_, _++_, map, foldl, zipWith, flatten, length, drop}
+use Rattle.packing.specs.Prelude.{ℕ, suc, List, [], _∷_, _++_, map, foldl, flatten, length, drop, if_then_else_}
 use Rattle.packing.specs.Prelude.{Opening, Command, Shelve, Count, Outcome, Placed, Counted, Refused, Answer, Entry, StreamResult}
-use Rattle.packing.specs.Refusals.{word}
+use Rattle.packing.specs.Refusals.{word, isRefused}
 use Rattle.packing.specs.Bins.{Item, Packing, empty, opened}
-use Rattle.packing.specs.Placing.{outcome, after}
+use Rattle.packing.specs.Placing.{Decision, into, refusing, decision, placed}
 use Rattle.packing.specs.Streams.{Read, accepted, refused}
 
 abbrev pub item : ℕ → Item
 item size = record { size = size }
 
--- The commands after the opening are numbered from 1; an answer joins the command's number with placed, counted or refused.
-unfoldable pub numbered : (from : ℕ) → List Outcome → List Answer
-numbered n [] = []
-numbered n (a ∷ rest) = record { number = n; outcome = a } ∷ numbered (suc n) rest
+-- What is decided of an item, as it is answered.
+abbrev pub told : Decision → Outcome
+told (into bin) = Placed bin
+told (refusing reason) = Refused reason
 
--- A command that shelves an item and is not refused gives its size and its bin.
-abbrev pub placement : Command → Outcome → List Entry
-placement (Shelve s) (Placed bin) = record { size = s; bin = bin } ∷ []
-placement (Shelve s) (Counted opened) = []
-placement (Shelve s) (Refused reason) = []
-placement Count a = []
+-- One command of the run: its number from 1, the packing that it gets, and what it comes to.
+pub record Step : Type 0 where
+  pub number : ℕ
+  pub command : Command
+  pub before : Packing
+  pub outcome : Outcome
 
 module _ (o : Opening) where
   abbrev pub answerTo : Packing → Command → Outcome
-  answerTo p (Shelve s) = outcome o p (item s)
+  answerTo p (Shelve s) = told (decision o p (item s))
   answerTo p Count = Counted (opened p)
 
+  -- What a command does, if it is not refused.
+  abbrev pub done : Packing → Command → Packing
+  done p (Shelve s) = placed o p (item s)
+  done p Count = p
+
+  -- A refused command changes nothing: loads, classes and the B2 count are as they were.
   abbrev pub next : Packing → Command → Packing
-  next p (Shelve s) = after o p (item s) (answerTo p (Shelve s))
-  next p Count = p
+  next p c = if isRefused (answerTo p c) then p else done p c
 
-  unfoldable pub outcomesFrom : Packing → List Command → List Outcome
-  outcomesFrom p [] = []
-  outcomesFrom p (c ∷ cs) = answerTo p c ∷ outcomesFrom (next p c) cs
+  unfoldable pub runFrom : Packing → (number : ℕ) → List Command → List Step
+  runFrom p n [] = []
+  runFrom p n (c ∷ cs) = record { number = n; command = c; before = p; outcome = answerTo p c } ∷ runFrom (next p c) (suc n) cs
 
-  -- After the commands cs: the packing, the answers, and the accepted items in the stream's order, each with its bin.
-  module _ (cs : List Command) where
-    abbrev pub packing : Packing
-    packing = foldl next empty cs
+-- The size that a command shelves an item by.
+abbrev pub sizeOf : Command → ℕ
+sizeOf (Shelve s) = s
+sizeOf Count = 0
 
-    abbrev pub outcomes : List Outcome
-    outcomes = outcomesFrom empty cs
+-- A command that shelves an item and is not refused gives its size and its bin.
+abbrev pub placement : Command → Outcome → List Entry
+placement c (Placed bin) = record { size = sizeOf c; bin = bin } ∷ []
+placement c (Counted opened) = []
+placement c (Refused reason) = []
 
-    abbrev pub answers : List Answer
-    answers = numbered 1 outcomes
+-- The commands after the opening are numbered from 1; an answer joins the command's number with placed, counted or refused.
+abbrev pub answerOf : Step → Answer
+answerOf t = record { number = t .number; outcome = t .outcome }
 
-    abbrev pub placements : List Entry
-    placements = flatten (zipWith placement cs outcomes)
+-- Of some steps: the accepted items, each with its bin.
+abbrev pub entriesOf : List Step → List Entry
+entriesOf ts = flatten (map (λ t. placement (t .command) (t .outcome)) ts)
+
+-- After the commands cs: the run, and what is read off it: the answers, and the accepted items in the stream's order. And the packing.
+module _ (o : Opening) (cs : List Command) where
+  abbrev pub run : List Step
+  run = runFrom o empty 1 cs
+
+  abbrev pub outcomes : List Outcome
+  outcomes = map (λ t. t .outcome) run
+
+  abbrev pub answers : List Answer
+  answers = map answerOf run
+
+  abbrev pub placements : List Entry
+  placements = entriesOf run
+
+  abbrev pub packing : Packing
+  packing = foldl (next o) empty cs
 
 -- What the call returns: the items accepted and the bins opened, or the refusal.
 abbrev pub result : Read → StreamResult

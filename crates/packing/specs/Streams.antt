@@ -1,5 +1,5 @@
 -- "Command streams": a row of bytes is read as an opening and the commands after it, or refused.
-use Rattle.packing.specs.Prelude.{ℕ, zero, suc, _+_, _*_, not, List, [], _∷_, foldl, length, take, drop, _=?_, _<?_, if_then_else_}
+use Rattle.packing.specs.Prelude.{ℕ, zero, suc, _+_, _*_, _≡_, not, List, [], _∷_, foldl, length, take, drop, _=?_, _<?_, if_then_else_}
 use Rattle.packing.specs.Prelude.{Opening, Command, Shelve, Count, WidthRow, Width, Known, Unknown}
 use Rattle.packing.specs.Prelude.{StreamReason, NoOpening, UnknownOpcode, CutShort, SecondOpening, OutsideLimits, TooManyCommands, TooFewWords}
 use Rattle.packing.specs.Limits.{openingGood, mostCommands}
@@ -52,6 +52,17 @@ front b s (Known width) =
     if length s <? width then faulty CutShort else
     whole (commandOf b s) width
 
+-- Of a stream that is not empty.
+abbrev pub frontOf : List ℕ → Front
+frontOf [] = faulty UnknownOpcode
+frontOf (b ∷ s) = front b s (lookup b widths)
+
+-- A whole command stands at the front.
+pub record WholeFront (s : List ℕ) : Type 0 where
+  pub command : Command
+  pub width : ℕ
+  pub front-is : frontOf s ≡ whole command width
+
 -- What a stream is read as: its opening and commands, or a refusal and its offset.
 pub data Read : Type 0 where
   accepted : Opening → List Command → Read
@@ -66,7 +77,7 @@ unfoldable pub commands : Opening → (left offset : ℕ) → List ℕ → Read
 commands o zero offset [] = accepted o []
 commands o zero offset (b ∷ s) = refused TooManyCommands offset
 commands o (suc left) offset [] = accepted o []
-commands o (suc left) offset (b ∷ s) = elim (front b s (lookup b widths)) [
+commands o (suc left) offset (b ∷ s) = elim (frontOf (b ∷ s)) [
   | faulty reason ↦ refused reason offset
   | whole c width ↦ follow c (commands o left (offset + suc width) (drop width s))
 ]
@@ -80,11 +91,11 @@ read (b ∷ s) =
     if not (openingGood (openingOf s)) then refused OutsideLimits 0 else
     commands (openingOf s) mostCommands openingLength (drop openingWidth s)
 
--- Refusal 7 comes last of the stream's: fewer answer words than commands, at the length of the stream.
+-- Refusal 7 comes last of the stream's: fewer answer words lent than commands, at the length of the stream.
 abbrev pub lent : (words bytes : ℕ) → Read → Read
 lent words bytes (accepted o cs) = if words <? length cs then refused TooFewWords bytes else accepted o cs
 lent words bytes (refused reason offset) = refused reason offset
 
 -- An accepted stream is one that no stream refusal stops.
-abbrev pub verdict : (stream row : List ℕ) → Read
-verdict stream row = lent (length row) (length stream) (read stream)
+abbrev pub verdict : (stream : List ℕ) (words : ℕ) → Read
+verdict stream words = lent words (length stream) (read stream)

@@ -3,9 +3,9 @@ use Rattle.packing.specs.Prelude.{ℕ, _+_, _*_, _≡_, refl, Bool, true
 use Rattle.packing.specs.Prelude.{Opening, SizeClass, A, B1, B2, X, Shelve, StreamResult, PlanResult, Overfull}
 use Rattle.packing.specs.Refusals.{word}
 use Rattle.packing.specs.SizeClasses.{sizeClass}
-use Rattle.packing.specs.Placing.{firstFit, put, outcome, placed}
+use Rattle.packing.specs.Placing.{firstFit, put, decision, placed}
 use Rattle.packing.specs.Streams.{widths, lookup, commands, read, verdict}
-use Rattle.packing.specs.Run.{outcomesFrom, outcomes, result, rowAtExit}
+use Rattle.packing.specs.Run.{runFrom, outcomes, result, rowAtExit}
 use Rattle.packing.specs.Plans.{planOf, limits, fault, entries, check}
 use Rattle.packing.specs.Compared.{numberOpened, used}
 
@@ -71,10 +71,10 @@ table =
     shelved 60 512 (replicate 12 22) is words (1 ∷ 1 ∷ 2 ∷ 2 ∷ 3 ∷ 4 ∷ 3 ∷ 5 ∷ 5 ∷ 6 ∷ 6 ∷ 7 ∷ []) ∷
     shelved 60 2 (31 ∷ 31 ∷ replicate 6 22) is words (1 ∷ 2 ∷ replicate 6 32_778) ∷
     -- The sample stream, with two words more than it has commands.
-    returned (result (verdict sample (replicate 12 7))) is returned (StreamResult.Accepted 8 4) ∷
-    words (rowAtExit (verdict sample (replicate 12 7)) (replicate 12 7)) is words (1 ∷ 2 ∷ 2 ∷ 3 ∷ 3 ∷ 4 ∷ 1 ∷ 32_778 ∷ 4 ∷ 4 ∷ 7 ∷ 7 ∷ []) ∷
+    returned (result (verdict sample 12)) is returned (StreamResult.Accepted 8 4) ∷
+    words (rowAtExit (verdict sample 12) (replicate 12 7)) is words (1 ∷ 2 ∷ 2 ∷ 3 ∷ 3 ∷ 4 ∷ 1 ∷ 32_778 ∷ 4 ∷ 4 ∷ 7 ∷ 7 ∷ []) ∷
     []
 
 pub worked-shelves : map (λ c. c .0) table ≡ map (λ c. c .1) table
-unfolding table sizeClass total greatest any firstFit put outcome placed outcomesFrom zipWith flatten used limits fault entries check widths lookup commands read
+unfolding table sizeClass total greatest any firstFit put decision placed runFrom zipWith flatten used limits fault entries check widths lookup commands read
 worked-shelves = refl

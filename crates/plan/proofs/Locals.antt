@@ -1,6 +1,7 @@
 -- The locals of a function that is walked by hand, as one entry of the context: what each of them holds, by its number. So a walk names locals by
 -- number, not by where they stand; a store asks only that the local's memory is there; and all of them are allocated, and freed, in one step.
-use Rattle.plan.proofs.Logic.{_≡_, refl, sym, ap, subst, ℕ, zero, suc, arith, Bool, true, false, _&&_, List, [], _∷_, map, T, getD, URA, fullShare, Ty, place}
+use Rattle.packing.proofs.Tests.{clash}
+use Rattle.plan.proofs.Logic.{_≡_, refl, sym, ap, subst, ℕ, zero, suc, Bool, true, false, _&&_, List, [], _∷_, map, T, getD, URA, fullShare, Ty, place}
 use Rattle.plan.proofs.Logic.{copy, RValue, Body, seq, assign, Local, local, Val, WT, hasTy, SProp, ent, sep, wand, all, emp, id⊢, via, assoc∗, monoL, monoR}
 use Rattle.plan.proofs.Logic.{mono∗, snd∗, apply∗, allE, guardI, fat, froom, fdies, Heap, Env, Calls, Loops, noLocal, release, Atoms, Given, Item, ‵, raw}
 use Rattle.plan.proofs.Logic.{given, mean, ⋆, nth, del, put, pull, fill, pop, _⊛_, Post, Goal, runs, lands, allocs, frees, aim, Seq, Step, step, _$_, _∵_, ! }
@@ -34,12 +35,12 @@ hold cs (suc i) d = first cs ∷ hold (rest cs) i d
 
 -- what is held already changes nothing
 none-held : {X : Type 0} (E : List X) (i : ℕ) {v : Val} → held E [] i ≡ holds v → ⊥
-none-held [] i h = let z : _≡_ {A = ℕ} 0 1 = cc in omega arith
-none-held (e ∷ E) zero h = let z : _≡_ {A = ℕ} 0 1 = cc in omega arith
+none-held [] i h = clash (cc)
+none-held (e ∷ E) zero h = clash (cc)
 none-held (e ∷ E) (suc i) h = none-held E i h
 
 kept : {X : Type 0} (E : List X) (cs : List Cell) (i : ℕ) {v : Val} → held E cs i ≡ holds v → hold cs i (holds v) ≡ cs
-kept [] cs i h = absurd (let z : _≡_ {A = ℕ} 0 1 = cc in omega arith)
+kept [] cs i h = clash (cc)
 kept (e ∷ E) [] i h = absurd (none-held (e ∷ E) i h)
 kept (e ∷ E) (c ∷ cs) zero h = rw h
 kept (e ∷ E) (c ∷ cs) (suc i) h = ap (_∷_ c) (kept E cs i h)
@@ -196,8 +197,8 @@ module _ {M : Type 1} {𝓤 : URA M} {H : Heap 𝓤} {A : Atoms 𝓤} {K : Type 
     pub vars : K → (n : ℕ) → nth 𝓤 H A n Γ ≡ locals H E cs → (is : List ℕ) {vs : List Val} → map (held E cs) is ≡ map holds vs
         → Opds K W Γ E (map (λ i. copy (place i [])) is) vs
     vars t n at-n [] {vs = []} h = no-more t
-    vars t n at-n [] {vs = v ∷ vs} h = absurd (let z : _≡_ {A = ℕ} 0 1 = cc in omega arith)
-    vars t n at-n (i ∷ is) {vs = []} h = absurd (let z : _≡_ {A = ℕ} 0 1 = cc in omega arith)
+    vars t n at-n [] {vs = v ∷ vs} h = absurd (clash (cc))
+    vars t n at-n (i ∷ is) {vs = []} h = absurd (clash (cc))
     vars t n at-n (i ∷ is) {vs = v ∷ vs} h = and-then t (var t n at-n (cc)) (vars t n at-n is (cc))
 
     module _ {C : Calls 𝓤 H} {Λ : Loops 𝓤 H} {q : Post 𝓤 H} where

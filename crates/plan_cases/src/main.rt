@@ -1,6 +1,5 @@
-// What the plan checker answers on the worked plans of document 01 and on a case of each of its refusals. Each case is a line of two answers: of
-// the core over two rows, and of the checker over the same entries. An answer is `passed`, or the refusal's number and place. The expected
-// answers of all cases are the file stdout, which the gate compares.
+// Runs the plan checker on the worked plans of document 01 and on a case of each of its refusals. Each case is a line of two answers: of
+// the core over two rows, and of the checker over the same entries. An answer is `passed`, or the refusal's number and place.
 use libc::STDOUT_FILENO;
 use packing::Entry;
 use packing::PlanResult;
@@ -12,7 +11,7 @@ fn show(answer: PlanResult) {
             io::write_all(STDOUT_FILENO, b"passed");
         }
         PlanResult::Refused { reason, place } => {
-            let number = packing::plan_number(reason);
+            let number = refusals::plan_number(reason);
             io::print_decimal(STDOUT_FILENO, number as u64);
             io::write_all(STDOUT_FILENO, b" at ");
             io::print_decimal(STDOUT_FILENO, place as u64);

@@ -38,7 +38,7 @@ fn lengths_good(k: usize, rows: usize, items: usize) -> bool
 pub fn check_limits(capacity: u32, k: u32, rows: usize, items: usize) -> PlanResult
     ensures { λ r. ⌜ r ≡ limits capacity k rows items ⌝ }
 {
-    let capacity_good = packing::is_within(1, MOST_CAPACITY, capacity);
+    let capacity_good = limits::is_within(1, MOST_CAPACITY, capacity);
     let short = lengths_good(k as usize, rows, items);
     if !capacity_good {
         return PlanResult::Refused {

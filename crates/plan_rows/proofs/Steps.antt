@@ -8,6 +8,7 @@ use native.Mathlib.Omega.{arith}
 use borrow.Author.Tests.{eq-eqb, ne-eqb}
 use lib.ListN.{length, getD, set, length-set}
 use lib.Seq.{getD-set-same, getD-set-other}
+use Rattle.packing.proofs.Tests.{clash}
 use Rattle.packing.specs.declared.{Entry.Entry, PlanReason.PlanReason, PlanResult.PlanResult}
 use Rattle.packing.specs.Prelude.{total}
 use Rattle.packing.specs.Limits.{mostRows}
@@ -34,7 +35,7 @@ module _ (capacity k : ℕ) (loads : List ℕ) (e : Entry) (items : List ℕ) (i
   faulty reason f = record {
     kept = kept;
     answered = λ before r. sym (ap (finding i) (f before r));
-    added = λ q. let z : _≡_ {A = ℕ} 0 1 = cc in absurd (omega arith);
+    added = λ q. clash (cc);
     refused = λ other place q. refl;
   }
 
@@ -71,5 +72,5 @@ module _ (capacity k : ℕ) (loads : List ℕ) (e : Entry) (items : List ℕ) (i
       };
       answered = λ before r. sym (ap (finding i) (f before r));
       added = λ q. stands;
-      refused = λ reason place q. let z : _≡_ {A = ℕ} 0 1 = cc in absurd (omega arith);
+      refused = λ reason place q. clash (cc);
     }

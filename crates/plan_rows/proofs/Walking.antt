@@ -1,6 +1,6 @@
 -- The walk over the entries. What is found so far, and then what is still to come with the entries that the loads stand for before it, is what the
 -- whole check comes to. Of any plan: the core walks two rows, and the checker over entries the entries.
-use mathlib.Core.Path.{_≡_, refl, sym, ap, _∙_}
+use mathlib.Core.Path.{_≡_, refl, ap, _∙_}
 use mathlib.Core.Option.{Option, some, none}
 use mathlib.Core.List.{List, [], _∷_, zipWith}
 use Prim.Native.Nat.{ℕ, zero, suc, min, _+_, _≤_, _<_}

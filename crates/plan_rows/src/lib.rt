@@ -30,12 +30,12 @@ pub fn check_entry(
         let reason = PlanReason::OtherItems;
         return PlanResult::Refused { reason, place };
     }
-    let size_good = packing::is_within(1, capacity, size);
+    let size_good = limits::is_within(1, capacity, size);
     if !size_good {
         let reason = PlanReason::SizeOutside;
         return PlanResult::Refused { reason, place };
     }
-    let bin_good = packing::is_within(1, k, bin);
+    let bin_good = limits::is_within(1, k, bin);
     if !bin_good {
         let reason = PlanReason::BinOutside;
         return PlanResult::Refused { reason, place };

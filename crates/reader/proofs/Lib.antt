@@ -1,7 +1,2 @@
--- The laws that the reader rests on: the table, operands and fronts, the opening, the first pass; what follows a command.
-pub mod Lookup
-pub mod Operands
-pub mod Fronts
+-- The laws that the reader rests on: the opening, its width and its operands.
 pub mod Openings
-pub mod Scanning
-pub mod Following

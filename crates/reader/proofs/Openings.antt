@@ -1,57 +1,33 @@
--- The opening, by the tests that the reader makes.
-use mathlib.Core.Path.{_≡_, refl, ap}
-use mathlib.Core.Bool.{true, false}
+-- The opening in the reader's terms: its width in the table, its operands, and that an accepted stream has one.
+use mathlib.Core.Path.{_≡_, refl, ap, _∙_}
 use mathlib.Core.List.{List, [], _∷_}
-use Prim.Native.Nat.{ℕ, _≤_, _<_}
+use Prim.Native.Nat.{ℕ}
 use native.Mathlib.Omega.{arith}
 use lib.ListN.{length, take, drop, getD}
-use borrow.Author.Tests.{eq-eqb, ne-eqb, lt-ltb, le-ltb}
+use lib.Seq.{drop-drop}
 use Rattle.packing.specs.declared.{Opening.Opening, Command.Command}
-use Rattle.packing.specs.declared.StreamReason.the-variants.{NoOpening, CutShort, OutsideLimits}
-use Rattle.packing.specs.Limits.{openingGood, mostCommands}
-use Rattle.packing.specs.Streams.{openingWidth, openingLength, behindOpening, openingOf, refused, commands, read}
-use Rattle.packing.specs.Claims.{Whole}
+use Rattle.packing.specs.Streams.{openingWidth, widths, lookup, operand, openingOf}
+use Rattle.packing.specs.Claims.{WholeStream}
+use Rattle.fronts.specs.Fronts.{tableWidth}
 use Rattle.reader.specs.Reading.{Opened}
 
-pub read-none : (s : List ℕ) → length s ≡ 0 → read s ≡ refused NoOpening 0
-unfolding read
-read-none [] h = refl
-read-none (b ∷ s) h = absurd (omega arith)
+table-width : tableWidth 1 ≡ openingWidth
+unfolding widths lookup
+table-width = refl
 
-pub read-other : (s : List ℕ) → 1 ≤ length s → (getD s 0 0 ≡ 1 → ⊥) → read s ≡ refused NoOpening 0
-unfolding read
-read-other [] h t = absurd (omega arith)
-read-other (b ∷ s) h t = rw (ne-eqb b 1 t)
+-- The table gives the opening's opcode the width that its operands have together.
+pub opening-width : (opcode width : ℕ) → width ≡ tableWidth opcode → opcode ≡ 1 → width ≡ openingWidth
+opening-width opcode width e f = e ∙ ap tableWidth f ∙ table-width
 
-pub read-cut : (s : List ℕ) → 1 ≤ length s → getD s 0 0 ≡ 1 → length s < openingLength → read s ≡ refused CutShort 0
-unfolding read
-read-cut [] h t l = absurd (omega arith)
-read-cut (b ∷ s) h t l =
-    let short : length s < openingWidth = omega arith in
-    rw (eq-eqb b 1 t, lt-ltb (length s) openingWidth short)
+-- The operands stand one after another behind the opcode.
+pub opening-is : (s : List ℕ) (capacity stock m : ℕ) → capacity ≡ operand 1 4 s → stock ≡ operand 5 2 s → m ≡ operand 7 1 s
+    → _≡_ {A = Opening} (record { capacity = capacity; stock = stock; m = m }) (openingOf (drop 1 s))
+opening-is s capacity stock m e f g = rw (e, f, g, drop-drop 4 1 s, drop-drop 6 1 s)
 
-module _ (b : ℕ) (s : List ℕ) (t : b ≡ 1) (l : openingWidth ≤ length s) where
-  outside : openingGood (openingOf s) ≡ false → read (b ∷ s) ≡ refused OutsideLimits 0
-  unfolding read
-  outside e = rw (eq-eqb b 1 t, le-ltb (length s) openingWidth l, e)
-
-  good : openingGood (openingOf s) ≡ true → read (b ∷ s) ≡ commands (openingOf s) mostCommands openingLength (drop openingWidth s)
-  unfolding read
-  good e = rw (eq-eqb b 1 t, le-ltb (length s) openingWidth l, e)
-
-pub read-outside : (s : List ℕ) → openingLength ≤ length s → getD s 0 0 ≡ 1 → openingGood (openingOf (drop 1 s)) ≡ false → read s ≡ refused OutsideLimits 0
-read-outside [] h t e = absurd (omega arith)
-read-outside (b ∷ s) h t e = outside b s t (omega arith) e
-
-pub read-good : (s : List ℕ) → openingLength ≤ length s → getD s 0 0 ≡ 1 → openingGood (openingOf (drop 1 s)) ≡ true
-    → read s ≡ commands (openingOf (drop 1 s)) mostCommands openingLength (behindOpening s)
-read-good [] h t e = absurd (omega arith)
-read-good (b ∷ s) h t e = good b s t (omega arith) e
-
--- An accepted stream has a whole opening.
 first-of : (s : List ℕ) (b : ℕ) → take 1 s ≡ b ∷ [] → getD s 0 0 ≡ b
 first-of [] b e = absurd (omega (arith, ap length e))
 first-of (a ∷ s) b e = cc
 
-pub whole-opened : (stream row : List ℕ) (o : Opening) (cs : List Command) → Whole stream row o cs → Opened stream
-whole-opened stream row o cs w = record { first = first-of stream 0x01 (w .opening-first); all = w .opening-whole }
+-- An accepted stream has a whole opening.
+pub whole-opened : (stream : List ℕ) (words : ℕ) (o : Opening) (cs : List Command) → WholeStream stream words o cs → Opened stream
+whole-opened stream words o cs w = record { first = first-of stream 0x01 (w .opening-first); all = w .opening-whole }

@@ -8,37 +8,30 @@ use lib.ListN.{length, take, drop, length-append}
 use lib.Seq.{length-take-le}
 use borrow.Author.Tests.{lt-ltb, le-ltb}
 use Rattle.packing.specs.declared.{Opening.Opening, Command.Command, StreamReason.StreamReason, StreamResult.StreamResult}
-use Rattle.packing.specs.declared.StreamReason.the-variants.{NoOpening, UnknownOpcode, CutShort, SecondOpening, OutsideLimits, TooManyCommands, TooFewWords}
 use Rattle.packing.specs.Refusals.{streamNumber}
-use Rattle.packing.specs.Bins.{empty, opened}
+use Rattle.packing.specs.Bins.{opened}
 use Rattle.packing.specs.Streams.{Read, accepted, refused, verdict}
+use Rattle.packing.specs.Limits.{mostCommands}
 use Rattle.packing.specs.Run.{packing, answers, placements, result, rowAtExit}
+use Rattle.packing.proofs.Tests.{clash}
 use Rattle.packing.proofs.Limits.{in-limits}
-use Rattle.packing.proofs.Trace.{trace}
-use Rattle.packing.proofs.Numbers.{placements-few, trace-in-stock}
+use Rattle.packing.proofs.Reached.{reached}
+use Rattle.packing.proofs.Running.{placements-few}
+use Rattle.packing.proofs.Given.{stream-number-few}
 use Rattle.packing.proofs.Accepted.{accepted-whole}
 use Rattle.text.specs.Lines.{digits, decimal, line}
 use Rattle.text.proofs.Lengths.{line-few}
-use Rattle.report.specs.Lines.{lines, text, lentRow, printed}
-use Rattle.report.specs.Writing.{Answered}
+use Rattle.report.specs.Lines.{lines, text, printed, mostOfALine, mostOfAnswers}
+use Rattle.report.specs.Writing.{Listable}
 
 -- "L 32768" and the newline.
 pub long-length : length (line (code "L") (32_768 ∷ [])) ≡ 8
 unfolding line decimal digits
 long-length = refl
 
-number-few : (reason : StreamReason) → streamNumber reason < 10
-number-few NoOpening = omega arith
-number-few UnknownOpcode = omega arith
-number-few CutShort = omega arith
-number-few SecondOpening = omega arith
-number-few OutsideLimits = omega arith
-number-few TooManyCommands = omega arith
-number-few TooFewWords = omega arith
-
 -- The line of a refusal, whose offset is some number of 64 bits.
 pub refusal-few : (reason : StreamReason) (offset : ℕ) → offset < 18446744073709551616 → length (line (code "X") (streamNumber reason ∷ offset ∷ [])) ≤ 25
-refusal-few reason offset h = line-few (code "X") 0 19 (streamNumber reason) offset (number-few reason) (omega arith)
+refusal-few reason offset h = line-few (code "X") 0 19 (streamNumber reason) offset (omega (arith, stream-number-few reason)) (omega arith)
 
 module _ (stream : List ℕ) where
   pub printed-long : 32_768 < length stream → printed stream ≡ line (code "L") (32_768 ∷ [])
@@ -46,29 +39,30 @@ module _ (stream : List ℕ) where
   printed-long h = rw (lt-ltb 32_768 (length stream) h)
 
   module _ (short : length stream ≤ 32_768) where
-    printed-text : printed stream ≡ text (verdict stream lentRow)
+    printed-text : printed stream ≡ text (verdict stream mostCommands)
     unfolding printed
     printed-text = rw (le-ltb 32_768 (length stream) short)
 
-    pub printed-refused : (reason : StreamReason) (offset : ℕ) → StreamResult.Refused reason offset ≡ result (verdict stream lentRow)
+    pub printed-refused : (reason : StreamReason) (offset : ℕ) → StreamResult.Refused reason offset ≡ result (verdict stream mostCommands)
         → printed stream ≡ line (code "X") (streamNumber reason ∷ offset ∷ [])
     unfolding text
-    printed-refused reason offset e = printed-text ∙ go (verdict stream lentRow) e
+    printed-refused reason offset e = printed-text ∙ go (verdict stream mostCommands) e
       where
         go : (r : Read) → StreamResult.Refused reason offset ≡ result r → text r ≡ line (code "X") (streamNumber reason ∷ offset ∷ [])
-        go (accepted o cs) q = absurd (let z : _≡_ {A = ℕ} 0 1 = cc in omega arith)
+        go (accepted o cs) q = clash (cc)
         go (refused reason′ offset′) q = cc
 
-  module _ (items bins : ℕ) (e : StreamResult.Accepted items bins ≡ result (verdict stream lentRow)) where
+  module _ (items bins : ℕ) (e : StreamResult.Accepted items bins ≡ result (verdict stream mostCommands)) where
     -- With its words and room for each line, an accepted stream can be listed.
-    pub answered : (words out : List ℕ) → words ≡ rowAtExit (verdict stream lentRow) lentRow → 45_056 ≤ length out → Answered stream words out
-    answered words out w h = go (verdict stream lentRow) refl e
+    pub listable : (words row out : List ℕ) → words ≡ rowAtExit (verdict stream mostCommands) row → mostOfAnswers ≤ length out → Listable stream words out
+    listable words row out w h = go (verdict stream mostCommands) refl e
       where
-        go : (r : Read) → verdict stream lentRow ≡ r → StreamResult.Accepted items bins ≡ result r → Answered stream words out
-        go (accepted o cs) p q = record { opening = o; commands = cs; accepts = p; answers = w; room = h }
-        go (refused reason offset) p q = absurd (let z : _≡_ {A = ℕ} 0 1 = cc in omega arith)
+        go : (r : Read) → verdict stream mostCommands ≡ r → StreamResult.Accepted items bins ≡ result r → Listable stream words out
+        go (accepted o cs) p q =
+            record { opening = o; commands = cs; accepts = p; others = drop (length cs) row; answers = w ∙ ap (λ (r : Read). rowAtExit r row) p; room = h }
+        go (refused reason offset) p q = clash (cc)
 
-    module _ (o : Opening) (cs : List Command) (accepts : verdict stream lentRow ≡ accepted o cs) where
+    module _ (o : Opening) (cs : List Command) (accepts : verdict stream mostCommands ≡ accepted o cs) where
       returned : StreamResult.Accepted items bins ≡ result (accepted o cs)
       returned = e ∙ ap result accepts
 
@@ -79,13 +73,13 @@ module _ (stream : List ℕ) where
       bins-are = let r = returned in cc
 
       -- "T 4096 512" and the newline.
-      pub totals-few : length (line (code "T") (items ∷ bins ∷ [])) ≤ 11
+      pub totals-few : length (line (code "T") (items ∷ bins ∷ [])) ≤ mostOfALine
       totals-few =
-          let ok = accepted-whole lentRow o cs stream accepts in
+          let ok = accepted-whole mostCommands o cs stream accepts in
           let stock = in-limits o (ok .opening-good) .stock .1 in
           line-few (code "T") 3 2 items bins
-          (omega (arith, items-are, placements-few o cs empty, ok .commands-few))
-          (omega (arith, bins-are, trace-in-stock o (trace o cs) (omega arith), stock))
+          (omega (arith, items-are, placements-few o cs, ok .commands-few))
+          (omega (arith, bins-are, reached o cs .stock-lasts, stock))
 
       pub printed-accepted : length stream ≤ 32_768 → printed stream ≡ lines (answers o cs) ++ line (code "T") (items ∷ bins ∷ [])
       unfolding text

@@ -1,8 +1,8 @@
 -- "Worked shelves", last paragraph: what `shelve` prints, as a row of bytes in ASCII.
 use mathlib.Core.List.{List, [], _∷_, _++_, map, flatten}
-use Prim.Native.Nat.{ℕ}
+use Prim.Native.Nat.{ℕ, _*_}
 use Prim.Native.Char.{code}
-use lib.ListN.{length, replicate}
+use lib.ListN.{length}
 use Rattle.packing.specs.declared.{Outcome.Outcome, Answer.Answer}
 use Rattle.packing.specs.declared.Outcome.the-variants.{Placed, Counted, Refused}
 use Rattle.packing.specs.Prelude.{_<?_, if_then_else_}
@@ -35,9 +35,13 @@ text (refused reason offset) = line (code "X") (streamNumber reason ∷ offset �
 abbrev pub mostBytes : ℕ
 mostBytes = 32_768
 
--- `shelve` lends 4,096 words, as many as there can be commands, so refusal 7 never comes. The verdict goes by their number alone.
-unfoldable pub lentRow : List ℕ
-lentRow = replicate mostCommands 0
-
+-- `shelve` lends as many words as there can be commands, so refusal 7 never comes.
 unfoldable pub printed : (stream : List ℕ) → List ℕ
-printed stream = if mostBytes <? length stream then line (code "L") (mostBytes ∷ []) else text (verdict stream lentRow)
+printed stream = if mostBytes <? length stream then line (code "L") (mostBytes ∷ []) else text (verdict stream mostCommands)
+
+-- No line of an answer or of the totals is longer than this ("P 4096 512" and its newline), and so not the lines of all answers.
+abbrev pub mostOfALine : ℕ
+mostOfALine = 11
+
+abbrev pub mostOfAnswers : ℕ
+mostOfAnswers = mostOfALine * mostCommands

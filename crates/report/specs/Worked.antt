@@ -1,18 +1,18 @@
 -- "Worked shelves": what is printed of the sample of document 01, whole, and of the shortest streams.
 use mathlib.Core.Path.{_≡_, refl}
-use mathlib.Core.List.{List, [], _∷_, map, zipWith, flatten}
+use mathlib.Core.List.{List, [], _∷_, map, flatten}
 use Prim.Native.Nat.{ℕ}
 use Prim.Native.Char.{code}
 use Prim.Native.String.{String}
 use Prim.Native.String.{[] as end-of-text, _∷_ as _before_}
-use Rattle.packing.specs.Placing.{firstFit, put, outcome, placed}
+use Rattle.packing.specs.Placing.{firstFit, put, decision, placed}
 use Rattle.packing.specs.Prelude.{total, any}
 use Rattle.packing.specs.SizeClasses.{sizeClass}
 use Rattle.packing.specs.Streams.{widths, lookup, commands, read}
-use Rattle.packing.specs.Run.{numbered, outcomesFrom}
+use Rattle.packing.specs.Run.{runFrom}
 use Rattle.packing.specs.Worked.{sample}
 use Rattle.text.specs.Lines.{digits, decimal, line}
-use Rattle.report.specs.Lines.{text, lentRow, printed}
+use Rattle.report.specs.Lines.{text, printed}
 
 -- A text as bytes.
 unfoldable pub bytes : String → List ℕ
@@ -28,5 +28,5 @@ table =
     []
 
 pub worked-texts : map (λ c. printed (c .0)) table ≡ map (λ c. bytes (c .1)) table
-unfolding table bytes printed text lentRow line decimal digits numbered sizeClass total any firstFit put outcome placed outcomesFrom zipWith flatten widths lookup commands read
+unfolding table bytes printed text line decimal digits sizeClass total any firstFit put decision placed runFrom flatten widths lookup commands read
 worked-texts = refl

@@ -1,9 +1,10 @@
 // The lines of the answers to an accepted stream: its commands are walked once more, each beside its answer word.
+use limits::MOST_COMMANDS;
 use packing::Answer;
 use packing::Outcome;
 ghost use Rattle.text.specs.Writing.{Room, Wrote};
 ghost use Rattle.report.specs.Lines.{answerLine};
-ghost use Rattle.report.specs.Writing.{Answered, Listed};
+ghost use Rattle.report.specs.Writing.{Listable, Listed};
 
 // The line of an answer.
 fn put_answer(out: &mut [u8], at: usize, answer: Answer) -> usize
@@ -22,26 +23,26 @@ fn put_answer(out: &mut [u8], at: usize, answer: Answer) -> usize
             text::put_line(out, at, b'C', number, opened)
         }
         Outcome::Refused(reason) => {
-            let refusal = packing::item_number(reason) as usize;
+            let refusal = refusals::item_number(reason) as usize;
             text::put_line(out, at, b'R', number, refusal)
         }
     }
 }
 
 // The lines of all commands, in their order, from the front of the row on. The word of a command's number tells its answer.
-pub fn put_answers(stream: &[u8], words: &[u16; 4096], out: &mut [u8]) -> usize
-    requires { ⌜ Answered (now stream) (now words) (now out) ⌝ }
+pub fn put_answers(stream: &[u8], words: &[u16; MOST_COMMANDS], out: &mut [u8]) -> usize
+    requires { ⌜ Listable (now stream) (now words) (now out) ⌝ }
     ensures { λ r. ⌜ Listed (now (stream .entry)) (now (out .entry)) r (now (out .exit)) ⌝ }
 {
     let mut rest = reader::behind_opening(stream);
     let mut done: usize = 0;
     let mut at: usize = 0;
     while 0 < rest.len() {
-        let front = reader::accepted_front(rest);
+        let front = fronts::accepted_front(rest);
         let used = front.width + 1;
         let command = front.command;
         let word = words[done];
-        let outcome = packing::outcome_of(command, word);
+        let outcome = refusals::outcome_of(command, word);
         let number = done + 1;
         let answer = Answer { number, outcome };
         at = put_answer(out, at, answer);

@@ -1,7 +1,6 @@
 // The calls for C and Rust, over the calls of this crate: a result is one 64-bit number. include/shelf.h documents them.
-use packing::PlanResult;
-use packing::StreamResult;
 ghost use mathlib.Core.Path.{_≡_};
+ghost use lib.ListN.{length};
 ghost use Rattle.packing.specs.Streams.{verdict};
 ghost use Rattle.packing.specs.Run.{result, rowAtExit};
 ghost use Rattle.packing.specs.Plans.{planOf, check};
@@ -9,57 +8,23 @@ ghost use Rattle.packing.specs.Claims.{HoldsAnswered, NeverOverfull, LoadsAddUp
 ghost use Rattle.worst_case.specs.OwnPlan.{OwnPlan};
 ghost use Rattle.worst_case.specs.WorstCase.{WorstCase};
 ghost use Rattle.shelf.specs.Accepted.{WhenAccepted};
-ghost use Rattle.shelf.specs.Codes.{streamCode, StreamFits, planCode, PlanFits, ZeroExactly};
-
-fn stream_code(r: StreamResult) -> u64
-    requires { ⌜ StreamFits r ⌝ }
-    ensures { λ code. ⌜ code ≡ streamCode r ⌝ }
-{
-    match r {
-        StreamResult::Accepted { items, opened } => {
-            let high = items as u64 * 65536;
-            let low = opened as u64;
-            high + low
-        }
-        StreamResult::Refused { reason, offset } => {
-            let number = packing::stream_number(reason) as u64;
-            let high = 9223372036854775808 + number * 4294967296;
-            let low = offset as u64;
-            high + low
-        }
-    }
-}
-
-fn plan_code(r: PlanResult) -> u64
-    requires { ⌜ PlanFits r ⌝ }
-    ensures { λ code. ⌜ code ≡ planCode r ⌝ }
-{
-    match r {
-        PlanResult::Passed => 0,
-        PlanResult::Refused { reason, place } => {
-            let number = packing::plan_number(reason) as u64;
-            let high = number * 4294967296;
-            let low = place as u64;
-            high + low
-        }
-    }
-}
+ghost use Rattle.codes.specs.Codes.{streamCode, FiguresFit, planCode, PlaceFits, ZeroExactly};
 
 // Shelves the items of a command stream (`shelf::shelve`).
 #[no_mangle]
 pub extern "C" fn shelve_stream(stream: &[u8], answers: &mut [u16]) -> u64
-    ensures code { λ r. ⌜ r ≡ streamCode (result (verdict (now (stream .entry)) (now (answers .entry)))) ⌝ }
-    ensures fits { λ _. ⌜ StreamFits (result (verdict (now (stream .entry)) (now (answers .entry)))) ⌝ }
-    ensures row { λ _. ⌜ now (answers .exit) ≡ rowAtExit (verdict (now (stream .entry)) (now (answers .entry))) (now (answers .entry)) ⌝ }
-    ensures counts { λ _. ⌜ WhenAccepted (now (stream .entry)) (now (answers .entry)) Counts ⌝ }
-    ensures holds_answered { λ _. ⌜ WhenAccepted (now (stream .entry)) (now (answers .entry)) HoldsAnswered ⌝ }
-    ensures never_overfull { λ _. ⌜ WhenAccepted (now (stream .entry)) (now (answers .entry)) NeverOverfull ⌝ }
-    ensures loads_add_up { λ _. ⌜ WhenAccepted (now (stream .entry)) (now (answers .entry)) LoadsAddUp ⌝ }
-    ensures own_plan_passes { λ _. ⌜ WhenAccepted (now (stream .entry)) (now (answers .entry)) OwnPlan ⌝ }
-    ensures worst_case { λ _. ⌜ WhenAccepted (now (stream .entry)) (now (answers .entry)) WorstCase ⌝ }
+    ensures code { λ r. ⌜ r ≡ streamCode (result (verdict (now (stream .entry)) (length (now (answers .entry))))) ⌝ }
+    ensures fits { λ _. ⌜ FiguresFit (result (verdict (now (stream .entry)) (length (now (answers .entry))))) ⌝ }
+    ensures row { λ _. ⌜ now (answers .exit) ≡ rowAtExit (verdict (now (stream .entry)) (length (now (answers .entry)))) (now (answers .entry)) ⌝ }
+    ensures counts { λ _. ⌜ WhenAccepted (now (stream .entry)) (length (now (answers .entry))) Counts ⌝ }
+    ensures holds_answered { λ _. ⌜ WhenAccepted (now (stream .entry)) (length (now (answers .entry))) HoldsAnswered ⌝ }
+    ensures never_overfull { λ _. ⌜ WhenAccepted (now (stream .entry)) (length (now (answers .entry))) NeverOverfull ⌝ }
+    ensures loads_add_up { λ _. ⌜ WhenAccepted (now (stream .entry)) (length (now (answers .entry))) LoadsAddUp ⌝ }
+    ensures own_plan_passes { λ _. ⌜ WhenAccepted (now (stream .entry)) (length (now (answers .entry))) OwnPlan ⌝ }
+    ensures worst_case { λ _. ⌜ WhenAccepted (now (stream .entry)) (length (now (answers .entry))) WorstCase ⌝ }
 {
     let r = crate::shelve(stream, answers);
-    stream_code(r)
+    codes::stream_code(r)
 }
 
 // Checks a plan in two rows (`shelf::check_rows`): 0 is passed.
@@ -72,9 +37,9 @@ pub extern "C" fn check_plan(
     k: u32,
 ) -> u64
     ensures code { λ r. ⌜ r ≡ planCode (check capacity k (planOf (now (sizes .entry)) (now (bins .entry))) (now (items .entry))) ⌝ }
-    ensures fits { λ _. ⌜ PlanFits (check capacity k (planOf (now (sizes .entry)) (now (bins .entry))) (now (items .entry))) ⌝ }
+    ensures fits { λ _. ⌜ PlaceFits (check capacity k (planOf (now (sizes .entry)) (now (bins .entry))) (now (items .entry))) ⌝ }
     ensures exact { λ r. ⌜ ZeroExactly capacity k (planOf (now (sizes .entry)) (now (bins .entry))) (now (items .entry)) r ⌝ }
 {
     let r = crate::check_rows(sizes, bins, items, capacity, k);
-    plan_code(r)
+    codes::plan_code(r)
 }

@@ -5,6 +5,7 @@ use packing::PlanResult;
 use packing::StreamResult;
 pub use plan::check_plan;
 ghost use mathlib.Core.Path.{_≡_};
+ghost use lib.ListN.{length};
 ghost use Rattle.packing.specs.Refusals.{streamGives, planGives};
 ghost use Rattle.packing.specs.Streams.{verdict};
 ghost use Rattle.packing.specs.Run.{result, rowAtExit};
@@ -20,14 +21,14 @@ ghost use Rattle.shelf.specs.Accepted.{WhenAccepted};
 // the plan of its own answers; and (demand 3) after each command 3 times the number opened is at most 5k + 15, for every plan that passes and
 // uses k bins.
 pub fn shelve(stream: &[u8], answers: &mut [u16]) -> StreamResult
-    ensures result { λ r. ⌜ streamGives r ≡ streamGives (result (verdict (now (stream .entry)) (now (answers .entry)))) ⌝ }
-    ensures row { λ _. ⌜ now (answers .exit) ≡ rowAtExit (verdict (now (stream .entry)) (now (answers .entry))) (now (answers .entry)) ⌝ }
-    ensures counts { λ _. ⌜ WhenAccepted (now (stream .entry)) (now (answers .entry)) Counts ⌝ }
-    ensures holds_answered { λ _. ⌜ WhenAccepted (now (stream .entry)) (now (answers .entry)) HoldsAnswered ⌝ }
-    ensures never_overfull { λ _. ⌜ WhenAccepted (now (stream .entry)) (now (answers .entry)) NeverOverfull ⌝ }
-    ensures loads_add_up { λ _. ⌜ WhenAccepted (now (stream .entry)) (now (answers .entry)) LoadsAddUp ⌝ }
-    ensures own_plan_passes { λ _. ⌜ WhenAccepted (now (stream .entry)) (now (answers .entry)) OwnPlan ⌝ }
-    ensures worst_case { λ _. ⌜ WhenAccepted (now (stream .entry)) (now (answers .entry)) WorstCase ⌝ }
+    ensures result { λ r. ⌜ streamGives r ≡ streamGives (result (verdict (now (stream .entry)) (length (now (answers .entry))))) ⌝ }
+    ensures row { λ _. ⌜ now (answers .exit) ≡ rowAtExit (verdict (now (stream .entry)) (length (now (answers .entry)))) (now (answers .entry)) ⌝ }
+    ensures counts { λ _. ⌜ WhenAccepted (now (stream .entry)) (length (now (answers .entry))) Counts ⌝ }
+    ensures holds_answered { λ _. ⌜ WhenAccepted (now (stream .entry)) (length (now (answers .entry))) HoldsAnswered ⌝ }
+    ensures never_overfull { λ _. ⌜ WhenAccepted (now (stream .entry)) (length (now (answers .entry))) NeverOverfull ⌝ }
+    ensures loads_add_up { λ _. ⌜ WhenAccepted (now (stream .entry)) (length (now (answers .entry))) LoadsAddUp ⌝ }
+    ensures own_plan_passes { λ _. ⌜ WhenAccepted (now (stream .entry)) (length (now (answers .entry))) OwnPlan ⌝ }
+    ensures worst_case { λ _. ⌜ WhenAccepted (now (stream .entry)) (length (now (answers .entry))) WorstCase ⌝ }
 {
     stream::shelve(stream, answers)
 }

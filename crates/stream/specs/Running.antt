@@ -2,17 +2,23 @@
 use mathlib.Core.Path.{_≡_}
 use mathlib.Core.List.{List}
 use Prim.Native.Nat.{ℕ}
-use Rattle.packing.specs.declared.{Opening.Opening, Command.Command, StreamResult.StreamResult}
+use lib.ListN.{length}
+use Rattle.packing.specs.declared.{Opening.Opening, Command.Command}
 use Rattle.packing.specs.Streams.{accepted, verdict}
-use Rattle.packing.specs.Run.{result, rowAtExit}
-use Rattle.stream.specs.declared.run.Totals.{Totals}
+use Rattle.packing.specs.Run.{packing, placements, rowAtExit}
+use Rattle.tournament.specs.declared.Shape.{Shape}
+use Rattle.aim.specs.declared.Counters.{Counters}
+use Rattle.engine.specs.Store.{held, Represents}
 
--- No stream refusal stops the stream, and it has this opening.
-pub record Runnable (stream row : List ℕ) (o : Opening) : Type 0 where
+-- No stream refusal stops the stream with so many words lent, and it has this opening.
+pub record Runnable (stream : List ℕ) (words : ℕ) (o : Opening) : Type 0 where
   pub commands : List Command
-  pub accepts : verdict stream row ≡ accepted o commands
+  pub accepts : verdict stream words ≡ accepted o commands
 
--- The totals returned and the row at exit are the model's.
-pub record Ran (stream row : List ℕ) (r : Totals) (words : List ℕ) : Type 0 where
-  pub totals : StreamResult.Accepted (r .items) (r .opened) ≡ result (verdict stream row)
-  pub answers : words ≡ rowAtExit (verdict stream row) row
+-- The row and the number of items are the model's, and the store stands for the packing after all commands.
+pub record Ran (stream row : List ℕ) (o : Opening) (shape : Shape) (words trees : List ℕ) (c : Counters) : Type 0 where
+  pub commands : List Command
+  pub accepts : verdict stream (length row) ≡ accepted o commands
+  pub answers : words ≡ rowAtExit (accepted o commands) row
+  pub items : c .items ≡ length (placements o commands)
+  pub represents : Represents o shape (held trees c) (packing o commands)

@@ -1,5 +1,5 @@
 -- The descent: the leaves below a node are those of its left child and then those of its right child, and no leaf is above its node.
-use mathlib.Core.Path.{_≡_, refl, sym, ap, subst}
+use mathlib.Core.Path.{_≡_, refl, ap}
 use mathlib.Core.Bool.{Bool, true, false, cond}
 use mathlib.Core.List.{List}
 use Prim.Native.Nat.{ℕ, zero, suc, _+_, _-_, _*_, _^_, _≤_, _<_}
@@ -13,7 +13,7 @@ use lib.Pow.{pow-pos}
 use borrow.Author.Tests.{le-leb, lt-leb}
 use Rattle.tournament.specs.declared.Shape.{Shape}
 use Rattle.tournament.specs.declared.Found.the-variants.{At, Nothing}
-use Rattle.tournament.specs.Trees.{rowWords, node, leaves, Right, Tree}
+use Rattle.tournament.specs.Trees.{rowWords, node, leaves, Tree}
 use Rattle.tournament.specs.FirstFit.{firstFit}
 use Rattle.tournament.specs.Descent.{Under, Descent, First}
 use Rattle.tournament.proofs.Fits.{meant}

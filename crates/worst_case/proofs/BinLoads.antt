@@ -5,13 +5,12 @@ use mathlib.Core.Bool.{Bool, true, false}
 use mathlib.Core.List.{List, [], _∷_, map}
 use native.Mathlib.Omega.{arith}
 use lib.Dec.{eqb}
-use Rattle.packing.specs.declared.{Opening.Opening, Entry.Entry}
+use Rattle.packing.specs.declared.{Opening.Opening, Command.Command, Entry.Entry}
 use Rattle.packing.specs.Prelude.{if_then_else_, total, keep}
-use Rattle.packing.specs.Bins.{Packing, empty}
+use Rattle.packing.specs.Run.{placements}
 use Rattle.packing.specs.Plans.{onBin}
 use Rattle.packing.specs.Compared.{sizesIn}
-use Rattle.packing.proofs.Trace.{Trace}
-use Rattle.packing.proofs.Holding.{trace-shown}
+use Rattle.packing.proofs.Holding.{shown-few}
 
 on-bin-is : (n : ℕ) (es : List Entry) → onBin n es ≡ total (sizesIn n es)
 unfolding total keep
@@ -24,5 +23,5 @@ on-bin-is n (e ∷ es) = go (eqb (e .bin) n) (on-bin-is n es)
     go true r = omega arith
     go false r = omega arith
 
-pub trace-on-bin : (o : Opening) (n : ℕ) {q : Packing} {es : List Entry} → Trace o empty es q → onBin n es ≤ o .capacity
-trace-on-bin o n {es = es} r = omega (arith, on-bin-is n es, trace-shown o n r)
+pub run-on-bin : (o : Opening) (cs : List Command) (n : ℕ) → onBin n (placements o cs) ≤ o .capacity
+run-on-bin o cs n = omega (arith, on-bin-is n (placements o cs), shown-few o cs n)

@@ -11,8 +11,8 @@ use Rattle.packing.specs.declared.Command.the-variants.{Shelve}
 use Rattle.packing.specs.Prelude.{total, greatest, any}
 use Rattle.packing.specs.Limits.{mGood, openingGood}
 use Rattle.packing.specs.SizeClasses.{sizeClass}
-use Rattle.packing.specs.Placing.{firstFit, put, outcome, placed}
-use Rattle.packing.specs.Run.{outcomesFrom}
+use Rattle.packing.specs.Placing.{firstFit, put, decision, placed}
+use Rattle.packing.specs.Run.{runFrom}
 use Rattle.packing.specs.Plans.{planOf, limits, fault, entries, check}
 use Rattle.packing.specs.Compared.{acceptedSizes, numberOpened, used}
 use Rattle.worst_case.specs.ExactFive.{ExactFive}
@@ -43,7 +43,7 @@ no-turn : (m : ℕ) → 6 ≤ m → eqb (1 % m) 0 ≡ false
 no-turn m h = rw (mod-eq-of-lt {n = 1} {m = m} (omega arith))
 
 met : (m : ℕ) → mGood m ≡ true → Met m
-unfolding sizeClass total greatest any firstFit put outcome placed outcomesFrom zipWith flatten used limits fault entries check
+unfolding sizeClass total greatest any firstFit put decision placed runFrom zipWith flatten used limits fault entries check
 met m h =
     let no-m-th = no-turn m (within-limits 6 9 m h .0) in
     record { good = rw h; passes = simp no-m-th; equal = simp no-m-th }

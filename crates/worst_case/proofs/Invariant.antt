@@ -1,4 +1,4 @@
--- What every packing has that Refined First-Fit made, class by class. The empty packing has it, placing an item keeps it, and so every run reaches it.
+-- What every packing has that Refined First-Fit made, class by class. The empty packing has it, placing an item keeps it, and so every trace reaches it.
 use Prim.Native.Nat.{ℕ, suc, _+_, _%_, _≤_, _<_}
 use mathlib.Core.Path.{_≡_, refl, subst}
 use mathlib.Core.Bool.{Bool, true, false}
@@ -6,17 +6,17 @@ use mathlib.Core.List.{List, [], List·Memᴰ·not-nil}
 use native.Mathlib.Omega.{arith}
 use borrow.Author.Tests.{eqb-true, eqb-false}
 use lib.Dec.{eqb}
-use Rattle.packing.specs.declared.{Opening.Opening, SizeClass.SizeClass, Command.Command, Entry.Entry}
+use Rattle.packing.specs.declared.{Opening.Opening, SizeClass.SizeClass}
 use Rattle.packing.specs.declared.SizeClass.the-variants.{A, B1, B2, X}
 use Rattle.packing.specs.Prelude.{if_then_else_}
 use Rattle.packing.specs.SizeClasses.{countB2}
-use Rattle.packing.specs.Bins.{Item, Bin, Packing, kind}
+use Rattle.packing.specs.Bins.{Item, Bin, Packing, empty, kind}
 use Rattle.packing.specs.Placing.{Target, toClass, besideA, classOf, targetOf, placed}
-use Rattle.packing.specs.Run.{item, packing}
+use Rattle.packing.specs.Run.{item, Step}
 use Rattle.packing.specs.Claims.{Bounds}
 use Rattle.packing.proofs.SizeClasses.{class-bounds}
 use Rattle.packing.proofs.Putting.{fresh, put-each}
-use Rattle.packing.proofs.Trace.{Trace, ends, places, trace}
+use Rattle.packing.proofs.Moves.{places, stays, Trace, ends, moves}
 use Rattle.worst_case.proofs.Lists.{weighs}
 use Rattle.worst_case.proofs.ByBounds.{b2}
 use Rattle.worst_case.proofs.OneKind.{OneKind, one-kind-kept}
@@ -118,10 +118,10 @@ module _ (o : Opening) (some : 1 ≤ o .m) where
   unfolding placed
   placed-kept p i r = kept o i (p .bins) (p .b2s) r some (kind o i) refl (class-bounds (o .capacity) (i .size))
 
-  trace-kept : {p q : Packing} {es : List Entry} → Trace o p es q → InvOf p → InvOf q
+  trace-kept : {p q : Packing} {ts : List Step} → Trace o p ts q → InvOf p → InvOf q
   trace-kept ends h = h
-  trace-kept (places {p = p} {s = s} a r) h = trace-kept r (placed-kept p (item s) h)
+  trace-kept (moves {p = p} (places {s = s} a) r) h = trace-kept r (placed-kept p (item s) h)
+  trace-kept (moves (stays e) r) h = trace-kept r h
 
-  -- So every list of commands ends in a packing that has it.
-  pub reached : (cs : List Command) → Inv (o .capacity) (o .m) (packing o cs .bins) (packing o cs .b2s)
-  reached cs = trace-kept (trace o cs) (inv-empty (o .capacity) (o .m) some)
+  pub trace-invariant : {q : Packing} {ts : List Step} → Trace o empty ts q → Inv (o .capacity) (o .m) (q .bins) (q .b2s)
+  trace-invariant r = trace-kept r (inv-empty (o .capacity) (o .m) some)

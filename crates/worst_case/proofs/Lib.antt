@@ -29,5 +29,6 @@ pub mod ClassFour
 pub mod Arithmetic
 pub mod Bound
 -- Demand 3, and that the constant 5 is exact.
+pub mod TraceBound
 pub mod WorstCase
 pub mod ExactFive

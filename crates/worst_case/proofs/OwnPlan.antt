@@ -3,45 +3,38 @@
 use Prim.Native.Nat.{ℕ, _≤_}
 use mathlib.Core.Path.{_≡_, refl}
 use mathlib.Core.Bool.{true}
-use mathlib.Core.List.{List, List·Memᴰ, List·Memᴰ·not-nil}
+use mathlib.Core.List.{List}
 use native.Mathlib.Omega.{arith}
 use lib.ListN.{length}
-use Rattle.packing.specs.declared.{Opening.Opening, Command.Command, Entry.Entry}
+use Rattle.packing.specs.declared.{Opening.Opening, Command.Command}
 use Rattle.packing.specs.Limits.{openingGood, mostCommands}
-use Rattle.packing.specs.Bins.{Packing, empty}
 use Rattle.packing.specs.Streams.{accepted, verdict}
 use Rattle.packing.specs.Run.{placements}
-use Rattle.packing.proofs.Tests.{each-cons}
-use Rattle.packing.proofs.Trace.{Trace, ends, places, trace}
-use Rattle.packing.proofs.Numbers.{trace-opened, trace-in-stock, trace-from-one, placements-few, at-most-greatest}
+use Rattle.packing.proofs.Limits.{in-limits}
+use Rattle.packing.proofs.Moves.{trace}
+use Rattle.packing.proofs.Reached.{reached}
+use Rattle.packing.proofs.Numbers.{trace-opened, trace-entries, at-most-greatest}
+use Rattle.packing.proofs.Running.{placements-few}
 use Rattle.packing.proofs.Accepted.{accepted-whole}
 use Rattle.worst_case.specs.OwnPlan.{OwnPlan}
-use Rattle.packing.proofs.Limits.{in-limits}
 use Rattle.worst_case.proofs.PlanFits.{fits-passed}
-use Rattle.worst_case.proofs.BinLoads.{trace-on-bin}
-
-module _ (o : Opening) where
-  -- The sizes placed are within the capacity.
-  trace-sizes : {p q : Packing} {es : List Entry} → Trace o p es q → (e : Entry) → List·Memᴰ e es → (1 ≤ e .size) × (e .size ≤ o .capacity)
-  trace-sizes ends = λ e m. absurd (List·Memᴰ·not-nil m)
-  trace-sizes (places a r) =
-      each-cons (λ e. (1 ≤ e .size) × (e .size ≤ o .capacity)) (a .some, a .within-capacity) (trace-sizes r)
+use Rattle.worst_case.proofs.BinLoads.{run-on-bin}
 
 pub own-plan : (o : Opening) (cs : List Command) → openingGood o ≡ true → length cs ≤ mostCommands → OwnPlan o cs
 own-plan o cs good few =
     let limits = in-limits o good in
-    let run = trace o cs in
+    let good-entries = trace-entries o (trace o cs) in
     fits-passed _ _ _ _
     (record {
       capacity-good = limits .capacity-good;
-      k-good = omega (arith, limits .stock, trace-opened o run, trace-in-stock o run (omega arith));
-      rows-good = omega (arith, placements-few o cs empty);
-      sizes-good = trace-sizes o run;
-      bins-good = λ e m. omega (arith, trace-from-one o run e m, at-most-greatest (λ e. e .bin) (placements o cs) e m);
+      k-good = omega (arith, limits .stock, trace-opened o (trace o cs), reached o cs .stock-lasts);
+      rows-good = omega (arith, placements-few o cs);
+      sizes-good = λ e m. (good-entries e m .some, good-entries e m .within-capacity);
+      bins-good = λ e m. omega (arith, good-entries e m .from-one, at-most-greatest (λ e. e .bin) (placements o cs) e m);
       items-in-order = refl;
-      none-overfull = λ n. trace-on-bin o n run;
+      none-overfull = run-on-bin o cs;
     })
 
 -- The same of every accepted stream.
-pub own-plan-of-stream : (stream row : List ℕ) (o : Opening) (cs : List Command) → verdict stream row ≡ accepted o cs → OwnPlan o cs
-own-plan-of-stream stream row o cs h = let good = accepted-whole row o cs stream h in own-plan o cs (good .opening-good) (good .commands-few)
+pub own-plan-of-stream : (stream : List ℕ) (words : ℕ) (o : Opening) (cs : List Command) → verdict stream words ≡ accepted o cs → OwnPlan o cs
+own-plan-of-stream stream words o cs h = let good = accepted-whole words o cs stream h in own-plan o cs (good .opening-good) (good .commands-few)

@@ -17,10 +17,14 @@ count-requires : tie.Need-count-requires
 count-requires c κs = search needs
 
 returns : tie.Need-returns
-returns c = rw (c .before .before .before .command .given .1) (c .place .ensures)
+returns c =
+    let shelve = c .before .before .before in
+    rw (shelve .command .given .1) (c .place .ensures)
 
 returns-2 : tie.Need-returns-2
-returns-2 c = rw (c .before .enum-told .given .1) (done-count _ _ _ _ _ (c .before .before .before .pre .sound) (c .count .ensures))
+returns-2 c =
+    let start = c .before .before .before in
+    rw (c .before .enum-told .given .1) (done-count (start .pre .sound) (c .count .ensures))
 
 pub answer-spec : {M : Type 1} → statement M
 answer-spec = tie.close (tie.spec enum-known-command place-requires enum-told count-requires returns returns-2)

@@ -1,20 +1,20 @@
--- `find_spot` meets its contract: what the search says of the leaves, and then each way out.
+-- `find_spot` meets its contract: what the search says of the tree, and then each way out.
 use mathlib.Core.Path.{_≡_, sym, subst, _∙_}
 use mathlib.Core.List.{List}
-use Prim.Native.Nat.{ℕ, _*_}
+use Prim.Native.Nat.{ℕ}
 use native.Mathlib.Omega.{arith}
 use borrow.Author.Tests.{le-leb, lt-leb}
 use borrow.Author.Needs.{needs}
 use Rattle.tournament.specs.declared.Found.the-variants.{At, Nothing}
-use Rattle.tournament.specs.Trees.{leaves}
 use Rattle.tournament.specs.FirstFit.{firstFit}
 use Rattle.tournament.proofs.Fits.{Lowest, Meaning, meaning}
+use Rattle.engine.specs.Store.{shownBy}
 use Rattle.engine.proofs.Forests.{leaf-count}
 use Rattle.engine.proofs.find_spot.Statement.{statement}
 use Rattle.engine.proofs.find_spot.Tie as tie
 
 abbrev row : tie.Start → List ℕ
-row s = leaves (s .args .trees .now) (1024 * s .args .tree) (s .args .shape .places)
+row s = shownBy (s .args .trees .now) (s .args .shape) (s .args .tree)
 
 -- Found.
 abbrev begun : tie.After-known-told → tie.Start
@@ -45,7 +45,7 @@ enum-known-found c = search needs
 value-requires : tie.Need-value-requires
 value-requires c κs =
     let given = begun c .pre in
-    (given .0 .tree _ (given .1 .0), omega (arith, lowest c .inside, leaf-count _ _ (given .0) _ (given .1 .0)))
+    (given .0 .tree _ (given .1 .0), omega (arith, lowest c .inside, leaf-count (given .0) _ (given .1 .0)))
 
 sub-free : tie.Need-sub-free
 sub-free c = omega (arith, c .value .ensures, lowest (c .before) .enough)
@@ -71,15 +71,4 @@ returns-3 c = rw (none (c .before .before), lt-leb _ _ (c .if1 .left))
 pub find-spot-spec : {M : Type 1} → statement M
 find-spot-spec =
     tie.close
-    (tie.spec
-    mul-base
-    search-requires
-    enum-known-found
-    value-requires
-    sub-free
-    enum-told
-    returns
-    sub-free-2
-    add-opened
-    returns-2
-    returns-3)
+    (tie.spec mul-base search-requires enum-known-found value-requires sub-free enum-told returns sub-free-2 add-opened returns-2 returns-3)

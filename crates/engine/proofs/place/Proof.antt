@@ -7,7 +7,8 @@ use native.Mathlib.Omega.{arith}
 use borrow.Author.Needs.{needs}
 use Rattle.packing.specs.Limits.{within}
 use Rattle.packing.proofs.Limits.{within-limits, limits-within}
-use Rattle.engine.proofs.Ways.{done-zero, done-large}
+use Rattle.packing.proofs.Decided.{is-zero, is-above, decides}
+use Rattle.engine.proofs.Ways.{done-refused}
 use Rattle.engine.proofs.place.Statement.{statement}
 use Rattle.engine.proofs.place.Tie as tie
 
@@ -35,7 +36,7 @@ refuse-requires c κs = search needs
 returns-2 : tie.Need-returns-2
 returns-2 c =
     let start = c .before .before .before .before in
-    rw (c .refuse .ensures) (done-zero _ _ _ _ _ (start .pre .sound) (c .before .if2 .taken))
+    rw (c .refuse .ensures) (done-refused (start .pre .sound) (λ p r. decides _ p _ _ (is-zero (c .before .if2 .taken))))
 
 refuse-requires-2 : tie.Need-refuse-requires-2
 refuse-requires-2 c κs = search needs
@@ -44,18 +45,12 @@ returns-3 : tie.Need-returns-3
 returns-3 c =
     let outside = c .before .before in
     let tested = outside .before in
+    let some = c .before .if2 .left in
     rw (c .refuse2 .ensures)
-    (done-large _ _ _ _ _ (tested .before .pre .sound) (c .before .if2 .left)
-    (too-large _ _ (sym (tested .is-within .ensures) ∙ outside .if1 .left) (c .before .if2 .left)))
+    (done-refused (tested .before .pre .sound)
+    (λ p r. decides _ p _ _ (is-above (omega (arith, some)) (too-large _ _ (sym (tested .is-within .ensures) ∙ outside .if1 .left) some))))
 
 pub place-spec : {M : Type 1} → statement M
 place-spec =
     tie.close
-    (tie.spec
-    is-within-requires
-    place-fitting-requires
-    returns
-    refuse-requires
-    returns-2
-    refuse-requires-2
-    returns-3)
+    (tie.spec is-within-requires place-fitting-requires returns refuse-requires returns-2 refuse-requires-2 returns-3)

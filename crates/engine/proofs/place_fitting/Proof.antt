@@ -1,49 +1,59 @@
--- `place_fitting` meets its contract: what is known of the item before the search, the spot that is found for it, and then each way out.
-use mathlib.Core.Path.{_≡_, sym, _∙_}
-use Prim.Native.Nat.{ℕ, _≤_, _<_}
+-- `place_fitting` meets its contract: what is known of the item before the search, what the search has for it, and then each way out.
+use mathlib.Core.Path.{_≡_, sym, subst, _∙_}
+use Prim.Native.Nat.{_<_}
 use native.Mathlib.Omega.{arith}
 use borrow.Author.Needs.{needs}
-use Rattle.engine.specs.declared.Spot.{Spot}
-use Rattle.engine.specs.declared.Room.the-variants.{Here}
+use Rattle.engine.specs.declared.{Spot.Spot, Offer.Offer}
+use Rattle.engine.specs.declared.Offer.the-variants.{Here, Spent}
+use Rattle.engine.specs.Store.{held, Sound}
 use Rattle.engine.specs.Spots.{spotFor}
 use Rattle.engine.proofs.Aimed.{Aimed, tree-few, home-few}
-use Rattle.engine.proofs.Spotted.{done-none, spot-inside, done-placed}
+use Rattle.engine.proofs.Spotted.{Says, says}
+use Rattle.engine.proofs.Ways.{done-refused, done-placed}
 use Rattle.engine.proofs.place_fitting.Statement.{statement}
 use Rattle.engine.proofs.place_fitting.Tie as tie
 
--- Before the search: the item's tree.
-abbrev tree : tie.After-tree-for → ℕ
-tree c = c .tree-for .result
+-- Before the search: the item and its tree.
+module _ (e : tie.After-tree-for) where
+  abbrev start : tie.Start
+  start = e .before
 
-aimed : (c : tie.After-tree-for) → Aimed (c .before .args .opening) (c .before .args .counters) (c .before .args .size) (tree c)
-aimed c = record {
-  some = c .before .pre .1 .0;
-  fits = c .before .pre .1 .1;
-  phase = c .before .pre .0 .sound .phase;
-  tree = c .tree-for .ensures;
-}
+  sound : Sound (start .args .opening) (start .args .shape) (held (start .args .trees .now) (start .args .counters))
+  sound = start .pre .0 .sound
 
--- Where there is room, the spot.
-abbrev searched : tie.After-known-told → tie.After-tree-for
-searched c = c .before .before .before .before .before
+  aimed : Aimed (start .args .opening) (start .args .counters) (start .args .size) (e .tree-for .result)
+  aimed = record { some = start .pre .1 .0; fits = start .pre .1 .1; phase = sound .phase; tree = e .tree-for .ensures }
 
-abbrev begun : tie.After-known-told → tie.Start
-begun c = searched c .before
+  -- What the search says of the item, by what it has for it.
+  abbrev Said : Offer → Type 0
+  Said = Says (start .args .opening) (start .args .shape) (held (start .args .trees .now) (start .args .counters)) (start .args .size) (e .tree-for .result)
 
-abbrev spot : tie.After-known-told → Spot
-spot c = c .before .room .given .0 .0
+  said : {offer : Offer}
+      → spotFor (start .args .opening) (start .args .shape) (start .args .trees .now) (start .args .counters .opened) (e .tree-for .result) (start .args .size) ≡ offer
+      → Said offer
+  said has = subst Said has (says aimed sound)
 
-here : (c : tie.After-known-told)
-    → spotFor (begun c .args .opening) (begun c .args .shape) (begun c .args .trees .now) (begun c .args .counters .opened) (tree (searched c))
-    (begun c .args .size)
-    ≡ Here (spot c)
-here c = sym (c .before .before .before .find-spot .ensures) ∙ c .before .room .given .1
+-- It has none.
+module _ (c : tie.After-enum-told) where
+  abbrev missed : tie.After-tree-for
+  missed = c .before .before .before .before
 
-inside : (c : tie.After-known-told) → spot c .place < begun c .args .shape .places
-inside c = spot-inside (aimed (searched c)) (begun c .pre .0 .sound) (here c)
+  none : Said missed Spent
+  none = said missed (sym (c .before .before .find-spot .ensures) ∙ c .enum-told .given .1)
 
-few : (c : tie.After-known-told) → begun c .args .shape .places ≤ 512
-few c = begun c .pre .0 .sound .forest .few
+-- It has a spot.
+module _ (c : tie.After-known-told) where
+  abbrev searched : tie.After-tree-for
+  searched = c .before .before .before .before .before
+
+  abbrev spot : Spot
+  spot = c .before .offer .given .0 .0
+
+  spotted : Said searched (Here spot)
+  spotted = said searched (sym (c .before .before .before .find-spot .ensures) ∙ c .before .offer .given .1)
+
+  few : spot .place < 512
+  few = omega (arith, spotted .inside, sound searched .forest .few)
 
 tree-for-requires : tie.Need-tree-for-requires
 tree-for-requires c κs = search needs
@@ -51,10 +61,10 @@ tree-for-requires c κs = search needs
 find-spot-requires : tie.Need-find-spot-requires
 find-spot-requires c κs =
     let e = c .before in
-    (e .before .pre .0 .sound .forest, (tree-few (aimed e), (aimed e .some, aimed e .fits)))
+    (sound e .forest, (tree-few (aimed e), (aimed e .some, aimed e .fits)))
 
-enum-known-room : tie.Need-enum-known-room
-enum-known-room c = search needs
+enum-known-offer : tie.Need-enum-known-offer
+enum-known-offer c = search needs
 
 enum-told : tie.Need-enum-told
 enum-told c = search needs
@@ -63,54 +73,38 @@ refuse-requires : tie.Need-refuse-requires
 refuse-requires c κs = search needs
 
 returns : tie.Need-returns
-returns c =
-    let told = c .before in
-    let search = told .before .before in
-    let e = search .before .before in
-    rw (c .refuse .ensures)
-    (done-none (aimed e) (e .before .pre .0 .sound) _ (sym (search .find-spot .ensures) ∙ told .enum-told .given .1))
+returns c = rw (c .refuse .ensures) (done-refused (sound (missed (c .before))) (none (c .before)))
 
 home-of-requires : tie.Need-home-of-requires
 home-of-requires c κs = search needs
 
 accept-requires : tie.Need-accept-requires
 accept-requires c κs =
-    let s = begun (c .before) in
-    (omega (arith, s .pre .0 .sound .phase), s .pre .0 .room)
+    let ready = start (searched (c .before)) .pre .0 in
+    (omega (arith, ready .sound .phase), ready .room)
 
 add-bin : tie.Need-add-bin
-add-bin c = omega (arith, inside (c .before .before), few (c .before .before))
+add-bin c = omega (arith, few (c .before .before))
 
 cast-bin : tie.Need-cast-bin
-cast-bin c = omega (arith, inside (c .before .before), few (c .before .before))
+cast-bin c = omega (arith, few (c .before .before))
 
 show-requires : tie.Need-show-requires
 show-requires c κs =
     let home = c .before .before in
-    let e = home .before in
-    (begun e .pre .0 .sound .forest, (rw (home .home-of .ensures) (home-few (aimed (searched e))), inside e))
+    let e = searched (home .before) in
+    (sound e .forest, (rw (home .home-of .ensures) (home-few (aimed e)), spotted (home .before) .inside))
 
 returns-2 : tie.Need-returns-2
 returns-2 c =
     let accepted = c .before .before in
     let home = accepted .before in
-    let e = home .before in
+    let e = searched (home .before) in
     rw (accepted .accept .ensures)
-    (done-placed (aimed (searched e)) (begun e .pre .0 .sound) (here e) _ (rw (home .home-of .ensures) at (c .show .ensures)))
+    (done-placed (aimed e) (rw (home .home-of .ensures) at (c .show .ensures)) (sound e) (spotted (home .before)))
 
 pub place-fitting-spec : {M : Type 1} → statement M
 place-fitting-spec =
     tie.close
-    (tie.spec
-    tree-for-requires
-    find-spot-requires
-    enum-known-room
-    enum-told
-    refuse-requires
-    returns
-    home-of-requires
-    accept-requires
-    add-bin
-    cast-bin
-    show-requires
-    returns-2)
+    (tie.spec tree-for-requires find-spot-requires enum-known-offer enum-told refuse-requires returns home-of-requires accept-requires add-bin
+    cast-bin show-requires returns-2)

@@ -17,20 +17,20 @@ store-requires-2 : tie.Need-store-requires-2
 store-requires-2 c κs =
     let stored = c .before .before in
     let given = stored .before .before .pre in
-    (still _ _ _ _ _ _ (given .1 .0) (given .0) (given .1 .1) (stored .store .ensures) .tree 0 (omega arith), given .1 .1)
+    (still (given .0) (given .1 .0) (given .1 .1) (stored .store .ensures) .tree 0 (omega arith), given .1 .1)
 
 returns : tie.Need-returns
 returns c =
     let stored = c .before .before .before in
     let given = stored .before .before .pre in
     rw (c .before .before .if1 .taken)
-    (shown-twice _ _ _ _ _ _ _ (given .1 .1) (shown-once _ _ _ _ _ _ (given .1 .0) (given .0) (given .1 .1) (stored .store .ensures)) (c .store2 .ensures))
+    (shown-twice (given .1 .1) (shown-once (given .0) (given .1 .0) (given .1 .1) (stored .store .ensures)) (c .store2 .ensures))
 
 returns-2 : tie.Need-returns-2
 returns-2 c =
     let stored = c .before in
     let given = stored .before .before .pre in
-    rw (c .if1 .left) (shown-once _ _ _ _ _ _ (given .1 .0) (given .0) (given .1 .1) (stored .store .ensures))
+    rw (c .if1 .left) (shown-once (given .0) (given .1 .0) (given .1 .1) (stored .store .ensures))
 
 pub show-spec : {M : Type 1} → statement M
 show-spec = tie.close (tie.spec mul-base store-requires store-requires-2 returns returns-2)

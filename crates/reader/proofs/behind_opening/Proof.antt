@@ -5,16 +5,17 @@ use native.Mathlib.Omega.{arith}
 use lib.ListN.{drop}
 use borrow.Author.Needs.{needs}
 use Rattle.packing.specs.Streams.{openingWidth, openingLength}
-use Rattle.reader.specs.Reading.{tableWidth}
-use Rattle.reader.proofs.Fronts.{part-is, opening-width}
+use Rattle.packing.proofs.Walking.{part-is}
+use Rattle.reader.proofs.Openings.{opening-width}
 use Rattle.reader.proofs.behind_opening.Statement.{statement}
 use Rattle.reader.proofs.behind_opening.Tie as tie
 
-abbrev start : tie.After-table-width → tie.Start
-start c = c .before .before .before
+module _ (c : tie.After-table-width) where
+  abbrev start : tie.Start
+  start = c .before .before .before
 
-width-is : (c : tie.After-table-width) → c .table-width .result ≡ openingWidth
-width-is c = c .table-width .ensures ∙ ap tableWidth (start c .pre .first) ∙ opening-width
+  width-is : c .table-width .result ≡ openingWidth
+  width-is = opening-width _ _ (c .table-width .ensures) (start .pre .first)
 
 shared-slice-read-opcode : tie.Need-shared-slice-read-opcode
 shared-slice-read-opcode c = search needs
@@ -26,10 +27,10 @@ add-begin : tie.Need-add-begin
 add-begin c = omega (arith, width-is c)
 
 sub-result : tie.Need-sub-result
-sub-result c = omega (arith, width-is c, start c .pre .all)
+sub-result c = omega (arith, width-is c)
 
 part-result-start : tie.Need-part-result-start
-part-result-start c = omega (arith, width-is c, start c .pre .all)
+part-result-start c = omega (arith, width-is c)
 
 part-result-end : tie.Need-part-result-end
 part-result-end c = search needs
@@ -38,18 +39,10 @@ returns : tie.Need-returns
 returns c =
     let t = c .before in
     let s = start t .args .stream .now in
-    let begin = t .table-width .result + 1 in
-    let length-is : begin ≡ openingLength = omega (arith, width-is t) in
-    part-is s begin (omega (arith, start t .pre .all)) ∙ ap (λ (k : ℕ). drop k s) length-is
+    let begin : t .table-width .result + 1 ≡ openingLength = omega (arith, width-is t) in
+    part-is s (t .table-width .result + 1) (omega (arith, start t .pre .all)) ∙ ap (λ (k : ℕ). drop k s) begin
 
 pub behind-opening-spec : {M : Type 1} → statement M
 behind-opening-spec =
     tie.close
-    (tie.spec
-    shared-slice-read-opcode
-    table-width-requires
-    add-begin
-    sub-result
-    part-result-start
-    part-result-end
-    returns)
+    (tie.spec shared-slice-read-opcode table-width-requires add-begin sub-result part-result-start part-result-end returns)

@@ -8,13 +8,14 @@ use lib.ListN.{length, length-append}
 use borrow.Author.Needs.{needs}
 use Rattle.packing.specs.declared.StreamReason.{StreamReason}
 use Rattle.packing.specs.declared.StreamResult.the-variants.{Accepted}
+use Rattle.packing.specs.Limits.{mostCommands}
 use Rattle.packing.specs.Refusals.{streamNumber}
 use Rattle.packing.specs.Streams.{verdict}
 use Rattle.packing.specs.Run.{answers, result}
 use Rattle.text.specs.Lines.{line}
 use Rattle.text.proofs.Rows.{at-front, wrote-both}
-use Rattle.report.specs.Lines.{lines, printed, lentRow}
-use Rattle.report.proofs.Texts.{long-length, refusal-few, printed-long, printed-refused, answered, totals-few, printed-accepted}
+use Rattle.report.specs.Lines.{lines, printed, mostOfALine}
+use Rattle.report.proofs.Texts.{long-length, refusal-few, printed-long, printed-refused, listable, totals-few, printed-accepted}
 use Rattle.report.proofs.print.Statement.{statement}
 use Rattle.report.proofs.print.Tie as tie
 
@@ -67,7 +68,6 @@ refusal-short : (c : tie.After-stream-number) → length (refusal c) ≤ 25
 refusal-short c = omega (arith, ap length (refusal-is c), refusal-few (reason c) (offset c) (omega (arith, c .before .known-told .given)))
 
 refusal-printed : (c : tie.After-stream-number) → printed (start (refused-at c) .args .stream .now) ≡ refusal c
-unfolding lentRow
 refusal-printed c =
     let r = refused-at c in
     printed-refused (start r .args .stream .now) (r .before .before .if1 .left) (reason c) (offset c) (sym (c .before .before .reason .given .1) ∙ r .shelve .ensures .0)
@@ -89,16 +89,14 @@ items c = c .items .given .0 .0
 abbrev bins : tie.After-items → ℕ
 bins c = c .items .given .0 .1 .0
 
-returned : (c : tie.After-items) → Accepted (items c) (bins c) ≡ result (verdict (start (accepted-at c) .args .stream .now) lentRow)
-unfolding lentRow
+returned : (c : tie.After-items) → Accepted (items c) (bins c) ≡ result (verdict (start (accepted-at c) .args .stream .now) mostCommands)
 returned c = sym (c .items .given .1) ∙ accepted-at c .shelve .ensures .0
 
 put-answers-requires : tie.Need-put-answers-requires
-unfolding lentRow
 put-answers-requires c κs =
     let i = c .before .before .before in
     let r = accepted-at i in
-    answered (start r .args .stream .now) (items i) (bins i) (returned i) (r .shelve .last .1 .0) (start r .args .out .now) (r .shelve .ensures .1)
+    listable (start r .args .stream .now) (items i) (bins i) (returned i) (r .shelve .last .1 .0) _ (start r .args .out .now) (r .shelve .ensures .1)
     (omega (arith, c .put-answers-arg .given .0 .1))
 
 -- The lines of its answers are listed: the totals have room behind them, and are the last that is printed.
@@ -108,7 +106,7 @@ items-at c = c .before .before .before .before
 abbrev totals : tie.After-put-answers → List ℕ
 totals c = line (code "T") (items (items-at c) ∷ bins (items-at c) ∷ [])
 
-totals-short : (c : tie.After-put-answers) → length (totals c) ≤ 11
+totals-short : (c : tie.After-put-answers) → length (totals c) ≤ mostOfALine
 totals-short c =
     let l = c .put-answers .ensures in
     totals-few _ _ _ (returned (items-at c)) (l .opening) (l .commands) (l .accepts)
@@ -143,17 +141,5 @@ returns-3 c =
 pub print-spec : {M : Type 1} → statement M
 print-spec =
     tie.close
-    (tie.spec
-    put-short-line-requires
-    returns
-    slice-aggregate-shelve
-    shelve-requires
-    enum-known-reason
-    stream-number-requires
-    cast-number
-    put-line-requires
-    enum-known-items
-    put-answers-requires
-    put-line-requires-2
-    returns-2
-    returns-3)
+    (tie.spec put-short-line-requires returns slice-aggregate-shelve shelve-requires enum-known-reason stream-number-requires cast-number
+    put-line-requires enum-known-items put-answers-requires put-line-requires-2 returns-2 returns-3)

@@ -1,5 +1,6 @@
 -- `shelve` meets its contract: the equations are those of the stream's call, and what holds of an accepted stream is a theorem about the model.
 use mathlib.Core.Path.{ap}
+use lib.ListN.{length}
 use borrow.Author.Needs.{needs}
 use Rattle.packing.specs.Refusals.{streamGives}
 use Rattle.packing.proofs.Theorems.{holds-answered, never-overfull, loads-add-up, counts}
@@ -29,7 +30,7 @@ returns c =
               λ o cs e. never-overfull o cs,
               (
                 λ o cs e. loads-add-up o cs,
-                (own-plan-of-stream (s .args .stream .now) (s .args .answers .now), worst-case-of-stream (s .args .stream .now) (s .args .answers .now)),
+                (own-plan-of-stream (s .args .stream .now) (length (s .args .answers .now)), worst-case-of-stream (s .args .stream .now) (length (s .args .answers .now))),
               ),
             ),
           ),

@@ -34,13 +34,5 @@ returns c = search needs
 pub main-spec : {M : Type 1} → statement M
 main-spec =
     tie.close
-    (tie.spec
-    slice-aggregate-read-full
-    read-full-requires
-    array-share-prefix-stream
-    slice-aggregate-print
-    print-requires
-    array-share-prefix-out
-    slice-aggregate-write-all
-    write-all-requires
-    returns)
+    (tie.spec slice-aggregate-read-full read-full-requires array-share-prefix-stream slice-aggregate-print print-requires array-share-prefix-out
+    slice-aggregate-write-all write-all-requires returns)

@@ -39,14 +39,4 @@ returns c = search needs
 pub fill-spec : {M : Type 1} → statement M
 fill-spec =
     tie.close
-    (tie.spec
-    Inv-loop
-    μ-loop
-    loop-holds
-    rem-put
-    shared-slice-read-put
-    put-requires
-    add-i
-    loop-less
-    loop-again
-    returns)
+    (tie.spec Inv-loop μ-loop loop-holds rem-put shared-slice-read-put put-requires add-i loop-less loop-again returns)

@@ -25,10 +25,4 @@ returns c = search needs
 pub show-spec : {M : Type 1} → statement M
 show-spec =
     tie.close
-    (tie.spec
-    write-all-requires
-    print-requires
-    array-share-prefix-out
-    slice-aggregate-write-all
-    write-all-requires-2
-    returns)
+    (tie.spec write-all-requires print-requires array-share-prefix-out slice-aggregate-write-all write-all-requires-2 returns)

@@ -42,15 +42,5 @@ returns-2 c = search needs
 pub show-end-spec : {M : Type 1} → statement M
 show-end-spec =
     tie.close
-    (tie.spec
-    write-all-requires
-    print-requires
-    print-decimal-requires
-    slice-aggregate-write-all
-    write-all-requires-2
-    sub-write-all
-    part-write-all-start
-    part-write-all-end
-    write-all-requires-3
-    returns
-    returns-2)
+    (tie.spec write-all-requires print-requires print-decimal-requires slice-aggregate-write-all write-all-requires-2 sub-write-all
+    part-write-all-start part-write-all-end write-all-requires-3 returns returns-2)

@@ -1,22 +1,45 @@
 -- `shelve` meets its contract: each refusal is the verdict and leaves the row as it was, and an accepted stream is what `answer_all` ensures.
-use mathlib.Core.Path.{sym, ap, _∙_}
+use mathlib.Core.Path.{_≡_, refl, sym, ap, _∙_}
 use mathlib.Core.List.{List}
 use Prim.Native.Nat.{ℕ}
+use lib.ListN.{length}
 use borrow.Author.Needs.{needs}
-use Rattle.packing.specs.Streams.{Read}
+use Rattle.packing.specs.Streams.{Read, verdict}
 use Rattle.packing.specs.Run.{result, rowAtExit}
+use Rattle.packing.proofs.Limits.{in-limits}
+use Rattle.tournament.specs.Trees.{rowWords}
+use Rattle.engine.proofs.Empty.{empty-store}
+use Rattle.stream.specs.Running.{Runnable}
 use Rattle.stream.proofs.Verdicts.{verdict-refused, verdict-short, verdict-accepted}
+use Rattle.stream.proofs.Going.{runnable-whole, ran-result}
 use Rattle.stream.proofs.shelve.Statement.{statement}
 use Rattle.stream.proofs.shelve.Tie as tie
 
-abbrev start : tie.After-validate → tie.Start
-start c = c .before .before .before
+-- Where the stream is read: its bytes, and the row.
+module _ (c : tie.After-validate) where
+  abbrev bytes : List ℕ
+  bytes = c .before .before .before .args .stream .now
 
-abbrev bytes : tie.After-validate → List ℕ
-bytes c = start c .args .stream .now
+  abbrev row : List ℕ
+  row = c .before .before .before .args .answers .now
 
-abbrev row : tie.After-validate → List ℕ
-row c = start c .args .answers .now
+  -- A refusal, told by the verdict.
+  refuses : {v : Read} → verdict bytes (length row) ≡ v
+      → (result v ≡ result (verdict bytes (length row))) × (rowAtExit v row ≡ rowAtExit (verdict bytes (length row)) row)
+  refuses e = (sym (ap result e), sym (ap (λ (r : Read). rowAtExit r row) e))
+
+-- Where there are words enough: the stream can be run.
+module _ (c : tie.Else1) where
+  abbrev told : tie.After-opening
+  told = c .before .before
+
+  abbrev read : tie.After-validate
+  read = told .before .before
+
+  runs : Runnable (bytes read) (length (row read)) (told .opening .given .0 .0)
+  runs =
+      verdict-accepted (bytes read) (length (row read)) (told .opening .given .0 .0) (told .opening .given .0 .1 .0)
+      (sym (told .opening .given .1) ∙ read .validate .ensures) (c .if1 .left)
 
 validate-requires : tie.Need-validate-requires
 validate-requires c κs = search needs
@@ -29,41 +52,40 @@ enum-known-opening c = search needs
 
 returns : tie.Need-returns
 returns c =
-    let k = c .before in
-    let v = k .before .before .before in
-    let e = verdict-short (bytes v) (row v) (k .before .opening .given .0 .0) (k .before .opening .given .0 .1 .0)
-    (sym (k .before .opening .given .1) ∙ v .validate .ensures) (c .if1 .taken) in
-    (sym (ap result e), sym (ap (λ (r : Read). rowAtExit r (row v)) e))
+    let o = c .before .before in
+    let v = o .before .before in
+    refuses v
+    (verdict-short (bytes v) (length (row v)) (o .opening .given .0 .0) (o .opening .given .0 .1 .0) (sym (o .opening .given .1) ∙ v .validate .ensures) (c .if1 .taken))
+
+shape-of-requires : tie.Need-shape-of-requires
+shape-of-requires c κs = in-limits (told c .opening .given .0 .0) (runnable-whole (runs c) .opening-good) .stock .1
 
 answer-all-requires : tie.Need-answer-all-requires
 answer-all-requires c κs =
-    let k = c .before .before in
-    let v = k .before .before .before in
-    verdict-accepted (bytes v) (row v) (k .before .opening .given .0 .0) (k .before .opening .given .0 .1 .0)
-    (sym (k .before .opening .given .1) ∙ v .validate .ensures) (c .before .if1 .left)
+    let s = c .before .before in
+    let e = s .before in
+    (runs e, empty-store _ _ rowWords refl (runnable-whole (runs e) .opening-good) (s .shape-of .ensures))
+
+cast-items : tie.Need-cast-items
+cast-items c = search needs
+
+cast-opened : tie.Need-cast-opened
+cast-opened c = search needs
 
 returns-2 : tie.Need-returns-2
 returns-2 c =
-    let v = c .before .before .before in
-    let e = verdict-refused (bytes v) (row v) (c .before .reason .given .0 .0) (c .before .reason .given .0 .1 .0)
-    (sym (c .before .reason .given .1) ∙ v .validate .ensures) in
-    (sym (ap result e), sym (ap (λ (r : Read). rowAtExit r (row v)) e))
+    let r = c .before in
+    let v = r .before .before in
+    refuses v (verdict-refused (bytes v) (length (row v)) (r .reason .given .0 .0) (r .reason .given .0 .1 .0) (sym (r .reason .given .1) ∙ v .validate .ensures))
 
 same-length : tie.Need-same-length
 same-length c = search needs
 
 returns-3 : tie.Need-returns-3
-returns-3 c = search needs
+returns-3 c = ran-result (c .before .before .before .before .answer-all .ensures)
 
 pub shelve-spec : {M : Type 1} → statement M
 shelve-spec =
     tie.close
-    (tie.spec
-    validate-requires
-    enum-known-reason
-    enum-known-opening
-    returns
-    answer-all-requires
-    returns-2
-    same-length
+    (tie.spec validate-requires enum-known-reason enum-known-opening returns shape-of-requires answer-all-requires cast-items cast-opened returns-2 same-length
     returns-3)

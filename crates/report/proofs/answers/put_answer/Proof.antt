@@ -86,20 +86,5 @@ returns-3 c =
 pub put-answer-spec : {M : Type 1} → statement M
 put-answer-spec =
     tie.close
-    (tie.spec
-    enum-known-outcome
-    cast-bin
-    put-line-requires
-    enum-known-outcome-2
-    cast-opened
-    put-line-requires-2
-    enum-known-outcome-3
-    item-number-requires
-    cast-refusal
-    put-line-requires-3
-    same-length
-    returns
-    same-length-2
-    returns-2
-    same-length-3
-    returns-3)
+    (tie.spec enum-known-outcome cast-bin put-line-requires enum-known-outcome-2 cast-opened put-line-requires-2 enum-known-outcome-3
+    item-number-requires cast-refusal put-line-requires-3 same-length returns same-length-2 returns-2 same-length-3 returns-3)

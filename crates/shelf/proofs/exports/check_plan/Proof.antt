@@ -1,12 +1,12 @@
--- `check_plan` meets its contract: a place always fits (Places), so 0 is the number of no refusal.
+-- `check_plan` meets its contract: a place always fits (codes, Places), so 0 is the number of no refusal.
 use mathlib.Core.Path.{_≡_, sym, ap, subst, _∙_}
 use Rattle.packing.specs.declared.{PlanResult.PlanResult}
 use Rattle.packing.specs.Plans.{planOf, check}
 use Rattle.packing.proofs.Given.{plan-gives-back}
 use borrow.Author.Needs.{needs}
-use Rattle.shelf.specs.Codes.{planCode, PlanFits}
-use Rattle.shelf.proofs.Places.{plan-fits}
-use Rattle.shelf.proofs.Back.{plan-code-back}
+use Rattle.codes.specs.Codes.{planCode, PlaceFits}
+use Rattle.codes.proofs.Places.{place-fits}
+use Rattle.codes.proofs.Back.{plan-code-back}
 use Rattle.shelf.proofs.exports.check_plan.Statement.{statement}
 use Rattle.shelf.proofs.exports.check_plan.Tie as tie
 
@@ -19,8 +19,8 @@ due c =
 returned : (c : tie.After-check-rows) → c .check-rows .result ≡ due c
 returned c = plan-gives-back (c .check-rows .result) (due c) (c .check-rows .ensures .0)
 
-fits : (c : tie.After-check-rows) → PlanFits (c .check-rows .result)
-fits c = subst PlanFits (sym (returned c)) (plan-fits _ _ _ _)
+fits : (c : tie.After-check-rows) → PlaceFits (c .check-rows .result)
+fits c = subst PlaceFits (sym (returned c)) (place-fits _ _ _ _)
 
 check-rows-requires : tie.Need-check-rows-requires
 check-rows-requires c κs = search needs
@@ -35,7 +35,7 @@ returns c =
     λ e. plan-code-back (d .check-rows .result) PlanResult.Passed (fits d) tt (sym (c .plan-code .ensures) ∙ e) in (
       c .plan-code .ensures ∙ ap planCode (returned d),
       (
-        plan-fits _ _ _ _,
+        place-fits _ _ _ _,
         (λ e. d .check-rows .ensures .1 .0 (passed e), λ f. c .plan-code .ensures ∙ ap planCode (d .check-rows .ensures .1 .1 f)),
       ),
     )

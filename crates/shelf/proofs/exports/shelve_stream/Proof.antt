@@ -1,12 +1,13 @@
--- `shelve_stream` meets its contract: every figure of a result fits (Offsets); all else is what `shelve` ensures.
+-- `shelve_stream` meets its contract: every figure of a result fits (codes, Figures); all else is what `shelve` ensures.
 use mathlib.Core.Path.{_≡_, sym, ap, subst, _∙_}
+use lib.ListN.{length}
 use borrow.Author.Needs.{needs}
 use Rattle.packing.specs.declared.{StreamResult.StreamResult}
 use Rattle.packing.specs.Streams.{verdict}
 use Rattle.packing.specs.Run.{result}
 use Rattle.packing.proofs.Given.{stream-gives-back}
-use Rattle.shelf.specs.Codes.{streamCode, StreamFits}
-use Rattle.shelf.proofs.Offsets.{stream-fits}
+use Rattle.codes.specs.Codes.{streamCode, FiguresFit}
+use Rattle.codes.proofs.Figures.{figures-fit}
 use Rattle.shelf.proofs.exports.shelve_stream.Statement.{statement}
 use Rattle.shelf.proofs.exports.shelve_stream.Tie as tie
 
@@ -15,13 +16,13 @@ start c = c .before .before .before .before
 
 -- What is due, and that it is what `shelve` returned.
 abbrev due : tie.After-shelve → StreamResult
-due c = result (verdict (start c .args .stream .now) (start c .args .answers .now))
+due c = result (verdict (start c .args .stream .now) (length (start c .args .answers .now)))
 
 returned : (c : tie.After-shelve) → c .shelve .result ≡ due c
 returned c = stream-gives-back (c .shelve .result) (due c) (c .shelve .ensures .0)
 
-fits : (c : tie.After-shelve) → StreamFits (due c)
-fits c = stream-fits (start c .args .stream .now) (start c .args .answers .now)
+fits : (c : tie.After-shelve) → FiguresFit (due c)
+fits c = figures-fit (start c .args .stream .now) (length (start c .args .answers .now))
 
 shelve-requires : tie.Need-shelve-requires
 shelve-requires c κs = search needs
@@ -29,7 +30,7 @@ shelve-requires c κs = search needs
 stream-code-requires : tie.Need-stream-code-requires
 stream-code-requires c κs =
     let d = c .before .before in
-    subst StreamFits (sym (returned d)) (fits d)
+    subst FiguresFit (sym (returned d)) (fits d)
 
 same-length : tie.Need-same-length
 same-length c = search needs

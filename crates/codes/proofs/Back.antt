@@ -1,0 +1,39 @@
+-- The 64-bit number gives the result back: a refusal's bit and its number stand above the offset or place, and the figures beside each other.
+use mathlib.Core.Path.{_≡_, refl}
+use Prim.Native.Nat.{_≤_}
+use native.Mathlib.Omega.{arith}
+use Rattle.packing.specs.declared.{StreamResult.StreamResult, PlanReason.PlanReason, PlanResult.PlanResult}
+use Rattle.packing.specs.declared.PlanReason.the-variants.{CapacityOutside, TooLong, SizeOutside, BinOutside, Overfull, OtherItems}
+use Rattle.packing.specs.Refusals.{streamNumber, planNumber}
+use Rattle.packing.proofs.Given.{stream-number-back, plan-number-back}
+use Rattle.codes.specs.Codes.{StreamCodeBack, PlanCodeBack}
+
+pub stream-code-back : StreamCodeBack
+stream-code-back (StreamResult.Accepted items opened) (StreamResult.Accepted items′ opened′) f g e =
+    let same : items ≡ items′ = omega (arith, f .1, g .1) in
+    let bins : opened ≡ opened′ = omega (arith, f .1, g .1) in
+    cc
+stream-code-back (StreamResult.Accepted items opened) (StreamResult.Refused reason offset) f g e = absurd (omega (arith, f .0, f .1))
+stream-code-back (StreamResult.Refused reason offset) (StreamResult.Accepted items opened) f g e = absurd (omega (arith, g .0, g .1))
+stream-code-back (StreamResult.Refused reason offset) (StreamResult.Refused reason′ offset′) f g e =
+    let number : streamNumber reason ≡ streamNumber reason′ = omega (arith, f, g) in
+    let place : offset ≡ offset′ = omega (arith, number) in
+    cc (stream-number-back reason reason′ number)
+
+-- A refusal's number is not 0.
+numbered : (reason : PlanReason) → 1 ≤ planNumber reason
+numbered CapacityOutside = omega arith
+numbered TooLong = omega arith
+numbered SizeOutside = omega arith
+numbered BinOutside = omega arith
+numbered Overfull = omega arith
+numbered OtherItems = omega arith
+
+pub plan-code-back : PlanCodeBack
+plan-code-back PlanResult.Passed PlanResult.Passed f g e = refl
+plan-code-back PlanResult.Passed (PlanResult.Refused reason place) f g e = absurd (omega (arith, numbered reason))
+plan-code-back (PlanResult.Refused reason place) PlanResult.Passed f g e = absurd (omega (arith, numbered reason))
+plan-code-back (PlanResult.Refused reason place) (PlanResult.Refused reason′ place′) f g e =
+    let number : planNumber reason ≡ planNumber reason′ = omega (arith, f, g) in
+    let same : place ≡ place′ = omega (arith, number) in
+    cc (plan-number-back reason reason′ number)

@@ -1,0 +1,4 @@
+-- Why the figures fit, and that the numbers give the results back.
+pub mod Figures
+pub mod Places
+pub mod Back

@@ -1,0 +1,59 @@
+-- `stream_code` meets its contract: each figure fits its place in the number.
+use mathlib.Core.Path.{sym, ap, subst, _∙_}
+use Prim.Native.Nat.{ℕ, _+_, _*_, _<_}
+use native.Mathlib.Omega.{arith}
+use borrow.Author.Needs.{needs}
+use Rattle.codes.specs.Codes.{streamCode, FiguresFit}
+use Rattle.codes.proofs.stream_code.Statement.{statement}
+use Rattle.codes.proofs.stream_code.Tie as tie
+
+-- Where the stream is accepted: its totals.
+totals-fit : (c : tie.After-known-told) → (c .before .r .given .0 .0 < 65536) × (c .before .r .given .0 .1 .0 < 65536)
+totals-fit c = subst FiguresFit (c .before .r .given .1) (c .before .before .before .pre)
+
+-- Where it is refused: the offset.
+abbrev offset : tie.After-known-told2 → ℕ
+offset c = c .before .r2 .given .0 .1 .0
+
+offset-fits : (c : tie.After-known-told2) → offset c < 4294967296
+offset-fits c = subst FiguresFit (c .before .r2 .given .1) (c .before .before .before .pre)
+
+enum-known-r : tie.Need-enum-known-r
+enum-known-r c = search needs
+
+mul-high : tie.Need-mul-high
+mul-high c = omega (arith, totals-fit c)
+
+add-result : tie.Need-add-result
+add-result c = omega (arith, totals-fit c)
+
+enum-known-r-2 : tie.Need-enum-known-r-2
+enum-known-r-2 c = search needs
+
+stream-number-requires : tie.Need-stream-number-requires
+stream-number-requires c κs = search needs
+
+cast-number : tie.Need-cast-number
+cast-number c = search needs
+
+mul-high-2 : tie.Need-mul-high-2
+mul-high-2 c = search needs
+
+add-high : tie.Need-add-high
+add-high c = search needs
+
+add-result-2 : tie.Need-add-result-2
+add-result-2 c = omega (arith, offset-fits (c .before))
+
+returns : tie.Need-returns
+returns c = sym (ap streamCode (c .before .r .given .1))
+
+returns-2 : tie.Need-returns-2
+returns-2 c =
+    ap (λ (n : ℕ). 9223372036854775808 + n * 4294967296 + offset (c .before)) (c .stream-number .ensures)
+    ∙ sym (ap streamCode (c .before .before .r2 .given .1))
+
+pub stream-code-spec : {M : Type 1} → statement M
+stream-code-spec =
+    tie.close
+    (tie.spec enum-known-r mul-high add-result enum-known-r-2 stream-number-requires cast-number mul-high-2 add-high add-result-2 returns returns-2)

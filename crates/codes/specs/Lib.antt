@@ -1,0 +1,2 @@
+-- The numbers that results are for C and Rust.
+pub mod Codes

@@ -1,0 +1,39 @@
+// A result as one 64-bit number, for C and Rust.
+use packing::PlanResult;
+use packing::StreamResult;
+ghost use mathlib.Core.Path.{_≡_};
+ghost use Rattle.codes.specs.Codes.{streamCode, FiguresFit, planCode, PlaceFits};
+
+pub fn stream_code(r: StreamResult) -> u64
+    requires { ⌜ FiguresFit r ⌝ }
+    ensures { λ code. ⌜ code ≡ streamCode r ⌝ }
+{
+    match r {
+        StreamResult::Accepted { items, opened } => {
+            let high = items as u64 * 65536;
+            let low = opened as u64;
+            high + low
+        }
+        StreamResult::Refused { reason, offset } => {
+            let number = refusals::stream_number(reason) as u64;
+            let high = 9223372036854775808 + number * 4294967296;
+            let low = offset as u64;
+            high + low
+        }
+    }
+}
+
+pub fn plan_code(r: PlanResult) -> u64
+    requires { ⌜ PlaceFits r ⌝ }
+    ensures { λ code. ⌜ code ≡ planCode r ⌝ }
+{
+    match r {
+        PlanResult::Passed => 0,
+        PlanResult::Refused { reason, place } => {
+            let number = refusals::plan_number(reason) as u64;
+            let high = number * 4294967296;
+            let low = place as u64;
+            high + low
+        }
+    }
+}

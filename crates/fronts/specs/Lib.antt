@@ -1,0 +1,2 @@
+-- What the functions of the front promise, in the model's terms.
+pub mod Fronts

@@ -1,0 +1,125 @@
+// The front of a command stream: the operand-width table, operands, and the command that stands there.
+use packing::Command;
+use packing::StreamReason;
+use packing::Width;
+use packing::WidthRow;
+ghost use mathlib.Core.Path.{_≡_};
+ghost use Prim.Native.Nat.{_≤_};
+ghost use lib.ListN.{length, drop};
+ghost use Rattle.packing.specs.Streams.{widths, lookup, commandOf, whole, frontOf, WholeFront};
+ghost use Rattle.fronts.specs.Fronts.{tableWidth, InStream, Operand, means};
+
+// "One table gives each command byte its operand width."
+const ROWS: usize = 3;
+
+const WIDTHS: [WidthRow; ROWS] = [
+    WidthRow {
+        opcode: 1,
+        width: 7,
+    },
+    WidthRow {
+        opcode: 2,
+        width: 4,
+    },
+    WidthRow {
+        opcode: 3,
+        width: 0,
+    },
+];
+
+// The command at the front of a stream, with its operand width; or its fault.
+pub enum Front {
+    Whole(Command, usize),
+    Faulty(StreamReason),
+}
+
+// A command and its operand width.
+pub struct WholeCommand {
+    pub command: Command,
+    pub width: usize,
+}
+
+// The operand width of a command byte: that of the first row that has it, so the rows are tried from the last to the first. (With no way out of
+// the loop the compiler makes constants of the table; with one it lays the table in memory at each call.)
+pub fn width_of(opcode: u8) -> Width
+    ensures { λ r. ⌜ r ≡ lookup opcode widths ⌝ }
+{
+    let mut found = Width::Unknown;
+    let mut i: usize = ROWS;
+    while 0 < i {
+        i -= 1;
+        let row = WIDTHS[i];
+        if row.opcode == opcode {
+            found = Width::Known(row.width);
+        }
+    }
+    found
+}
+
+// The operand width of a byte that is in the table; 0 for any other.
+pub fn table_width(opcode: u8) -> usize
+    ensures { λ r. ⌜ r ≡ tableWidth opcode ⌝ }
+{
+    let Width::Known(width) = width_of(opcode) else {
+        return 0;
+    };
+    width
+}
+
+// An unsigned operand of up to 4 bytes, most significant byte first.
+pub fn operand(s: &[u8], at: usize, width: usize) -> u32
+    requires { ⌜ InStream at width (now s) ⌝ }
+    ensures { λ r. ⌜ Operand at width (now (s .entry)) r ⌝ }
+{
+    let mut n: u32 = 0;
+    let mut i: usize = 0;
+    while i < width {
+        let byte = s[at + i] as u32;
+        n = n * 256 + byte;
+        i += 1;
+    }
+    n
+}
+
+// The command of an opcode that is in the table and is no opening, whole with its operands.
+fn command_of(opcode: u8, rest: &[u8]) -> Command
+    requires { ⌜ (opcode ≡ 2 → 5 ≤ length (now rest)) ⌝ }
+    ensures { λ r. ⌜ r ≡ commandOf opcode (drop 1 (now (rest .entry))) ⌝ }
+{
+    if opcode == 2 {
+        let size = operand(rest, 1, 4);
+        return Command::Shelve(size);
+    }
+    Command::Count
+}
+
+// Reads the command at the front of a stream. At one command the order is 2, 4, 3.
+pub fn read_front(rest: &[u8]) -> Front
+    requires { ⌜ 1 ≤ length (now rest) ⌝ }
+    ensures { λ r. ⌜ means r ≡ frontOf (now (rest .entry)) ⌝ }
+{
+    let opcode = rest[0];
+    let Width::Known(width) = width_of(opcode) else {
+        return Front::Faulty(StreamReason::UnknownOpcode);
+    };
+    let operands = rest.len() - 1;
+    if opcode == 1 {
+        return Front::Faulty(StreamReason::SecondOpening);
+    }
+    if operands < width {
+        return Front::Faulty(StreamReason::CutShort);
+    }
+    let command = command_of(opcode, rest);
+    Front::Whole(command, width)
+}
+
+// The command at the front of a stream where the first pass has found no fault: nothing is checked again.
+pub fn accepted_front(rest: &[u8]) -> WholeCommand
+    requires { ⌜ WholeFront (now rest) ⌝ }
+    ensures { λ r. ⌜ whole (r .command) (r .width) ≡ frontOf (now (rest .entry)) ⌝ }
+{
+    let opcode = rest[0];
+    let command = command_of(opcode, rest);
+    let width = table_width(opcode);
+    WholeCommand { command, width }
+}

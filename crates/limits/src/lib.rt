@@ -1,0 +1,33 @@
+// "What the shelf consists of": tests of document 01's limits.
+use packing::Opening;
+ghost use mathlib.Core.Path.{_≡_};
+ghost use Rattle.packing.specs.Limits.{within, openingGood};
+
+// How many commands may follow the opening.
+pub const MOST_COMMANDS: usize = 4096;
+
+// Whether a number is within limits, both of them included.
+pub fn is_within(least: u32, most: u32, n: u32) -> bool
+    ensures { λ r. ⌜ r ≡ within least most n ⌝ }
+{
+    if n < least {
+        return false;
+    }
+    n <= most
+}
+
+// Whether each operand of the opening is within its limits.
+pub fn opening_good(o: Opening) -> bool
+    ensures { λ r. ⌜ r ≡ openingGood o ⌝ }
+{
+    let capacity = o.capacity;
+    let stock = o.stock as u32;
+    let m = o.m as u32;
+    if is_within(1, 16777216, capacity) {
+        if is_within(1, 512, stock) {
+            return is_within(6, 9, m);
+        }
+        return false;
+    }
+    false
+}

@@ -1,0 +1,2 @@
+-- Why three choices tell the class.
+pub mod Parts

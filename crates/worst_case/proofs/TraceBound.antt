@@ -1,0 +1,56 @@
+-- The bound of a trace. From the empty packing it reaches one with the invariant. Its items weigh what the items of any plan that passes weigh, so the
+-- bound of one packing applies. Every theorem that compares a packing with a plan is a corollary.
+use Prim.Native.Nat.{ℕ, _+_, _*_, _≤_}
+use mathlib.Core.Path.{_≡_}
+use mathlib.Core.Bool.{true}
+use mathlib.Core.List.{List, map}
+use native.Mathlib.Omega.{arith}
+use Rattle.packing.specs.declared.{Opening.Opening, Entry.Entry, PlanResult.PlanResult}
+use Rattle.packing.specs.Prelude.{total, greatest}
+use Rattle.packing.specs.Limits.{openingGood}
+use Rattle.packing.specs.Bins.{Packing, empty}
+use Rattle.packing.specs.Run.{Step, entriesOf}
+use Rattle.packing.specs.Plans.{check}
+use Rattle.packing.specs.Compared.{used}
+use Rattle.packing.proofs.Limits.{in-limits}
+use Rattle.packing.proofs.Putting.{weightOf}
+use Rattle.packing.proofs.Moves.{Trace}
+use Rattle.packing.proofs.Numbers.{trace-opened, trace-weight}
+use Rattle.worst_case.proofs.Lists.{weigh, total-weigh}
+use Rattle.worst_case.proofs.Above.{above, above-few}
+use Rattle.worst_case.proofs.Sixths.{twice, heavy, heavy-apart, heavy-most}
+use Rattle.worst_case.proofs.Weighing.{MostInABin, weighing}
+use Rattle.worst_case.proofs.Invariant.{trace-invariant}
+use Rattle.worst_case.proofs.Bound.{Weighed, bound}
+
+module _ (o : Opening) {q : Packing} {ts : List Step} (r : Trace o empty ts q) where
+  -- The sizes of the items that it places.
+  abbrev sizes : List ℕ
+  sizes = map (λ e. e .size) (entriesOf ts)
+
+  -- The packing weighs what they weigh.
+  trace-weighs : (w : ℕ → ℕ) → weightOf w (q .bins) ≡ weigh w sizes
+  unfolding total
+  trace-weighs w = omega (arith, trace-weight o w r, total-weigh (λ e. e .size) w (entriesOf ts))
+
+  module _ (k : ℕ) (plan : List Entry) (ok : check (o .capacity) k plan sizes ≡ PlanResult.Passed) where
+    weighed-plan : (w : ℕ → ℕ) (most : ℕ) → MostInABin w (o .capacity) most → weigh w sizes ≤ most * used plan
+    weighed-plan w = weighing w (o .capacity) k plan sizes ok
+
+    weighed-trace : Weighed (o .capacity) (used plan) (q .bins)
+    weighed-trace =
+        let c = o .capacity in
+        let sixths = weighed-plan (heavy c) (3 * c) (heavy-most c) in
+        record {
+          by-size = rw (trace-weighs (λ s. s)) (weighed-plan (λ s. s) c (λ l h. h));
+          by-halves = rw (trace-weighs (above c 2)) (weighed-plan (above c 2) 1 (λ l h. omega (arith, above-few c 2 l (omega arith) h)));
+          by-thirds = rw (trace-weighs (above c 3)) (weighed-plan (above c 3) 2 (λ l h. omega (arith, above-few c 3 l (omega arith) h)));
+          by-sixths = rw (trace-weighs (above c 2), trace-weighs (above c 3), trace-weighs (twice c)) (omega (arith, heavy-apart c sizes));
+        }
+
+    -- The bins of the packing are as many as the greatest number answered.
+    pub trace-five : openingGood o ≡ true → 3 * greatest (map (λ e. e .bin) (entriesOf ts)) ≤ 5 * used plan + 5
+    trace-five good =
+        let m = in-limits o good .m in
+        let inv = trace-invariant o (omega arith) r in
+        omega (arith, trace-opened o r, bound (o .capacity) (o .m) (q .b2s) (used plan) (q .bins) inv (m .0) (m .1) weighed-trace)
