@@ -96,7 +96,8 @@ module _ {M : Type 1} (𝓤 : URA M) (H : Heap 𝓤) (A : Atoms 𝓤) (W : Given
   exits : (r : PlanResult) → Is D.the-row r (told r ∷ []) → r ≡ check cap k ys (now ms) → ent 𝓤 (⋆ 𝓤 H A Lasting) (Post (told r))
   exits r is e =
       qed W Lasting ∵
-      suffices ! _ (ends-at 𝓤 H A check-plan.ended stayed (check-plan.clauses 𝓤 H A mem run) W _ (told r) r (tt, (tt, (tt, (tt, tt)))) (tt, (tt, (tt, (tt, tt))))) $
+      suffices ! _ (ends-at 𝓤 H A check-plan.ended stayed (check-plan.clauses 𝓤 H A mem run) W (((κ, (κ′, tt)), (q, (q₁, tt)), tt, a, at), tt) (told r) r
+      (tt, (tt, (tt, (tt, tt)))) (tt, (tt, (tt, (tt, tt))))) $
       says-both ! (ap planGives e) (exact-as cap k ys (now ms) r e) $ nothing ! $ move ! (2 ∷ 0 ∷ []) $ join ! $ move ! (1 ∷ 0 ∷ []) $ join ! $ frame ! $
       -- [the plan; the items]: what the parameters own, from the last
       nothing ! $ number ! w32 k gk $ number ! w32 cap gc $ move ! (2 ∷ 0 ∷ []) $ fjoin ! $ move ! (1 ∷ 0 ∷ []) $ fjoin ! $ frame ! $

@@ -17,6 +17,12 @@ capacity-good c = sym (c .before .before .is-within .ensures) ∙ not-false _ (c
 short : (c : tie.Else2) → let a = c .before .before .before .before .args in lengthsGood (a .k ∷ a .rows ∷ a .items ∷ []) ≡ true
 short c = sym (c .before .before .lengths-good .ensures) ∙ not-false _ (c .if2 .left)
 
+is-within-requires : tie.Need-is-within-requires
+is-within-requires c κs = search needs
+
+lengths-good-requires : tie.Need-lengths-good-requires
+lengths-good-requires c κs = search needs
+
 returns : tie.Need-returns
 unfolding limits
 returns c = rw (sym (c .before .before .is-within .ensures) ∙ not-true _ (c .if1 .taken))
@@ -29,10 +35,16 @@ returns-3 : tie.Need-returns-3
 unfolding limits
 returns-3 c = rw (capacity-good (c .before .before), short (c .before), eq-eqb _ _ (c .if3 .taken))
 
+shorter-requires : tie.Need-shorter-requires
+shorter-requires c κs = search needs
+
+add-place : tie.Need-add-place
+add-place c = search needs
+
 returns-4 : tie.Need-returns-4
 unfolding limits
 returns-4 c = rw (capacity-good (c .before .before .before), short (c .before .before), ne-eqb _ _ (c .before .if3 .left), ← c .shorter .ensures, add-one)
 
 pub check-limits-spec : {M : Type 1} → statement M
 check-limits-spec =
-    tie.close (tie.spec (λ c κs. search needs) (λ c κs. search needs) returns returns-2 returns-3 (λ c κs. search needs) (λ c. search needs) returns-4)
+    tie.close (tie.spec is-within-requires lengths-good-requires returns returns-2 returns-3 shorter-requires add-place returns-4)

@@ -27,9 +27,21 @@ bin-good c = sym (c .before .is-within2 .ensures) ∙ not-false _ (c .if3 .left)
 has-load : (c : tie.Else3) → start c .args .entry .bin ≤ mostRows
 has-load c = omega (arith, within-limits 1 (start c .args .k) (start c .args .entry .bin) (bin-good c), start c .pre .kept .k-most)
 
+mul-item : tie.Need-mul-item
+mul-item c = search needs
+
+shared-slice-read-item : tie.Need-shared-slice-read-item
+shared-slice-read-item c = search needs
+
+add-place : tie.Need-add-place
+add-place c = search needs
+
 returns : tie.Need-returns
 unfolding fault
 returns c = faulty _ _ _ _ _ _ (c .before .before .before .pre .kept) OtherItems (λ before r. rw (ne-eqb _ _ (c .if1 .taken)))
+
+is-within-requires : tie.Need-is-within-requires
+is-within-requires c κs = search needs
 
 returns-2 : tie.Need-returns-2
 unfolding fault
@@ -38,12 +50,24 @@ returns-2 c =
     faulty _ _ _ _ _ _ (e .before .before .before .pre .kept) SizeOutside
     (λ before r. rw (eq-eqb _ _ (e .if1 .left), sym (c .before .is-within .ensures) ∙ not-true _ (c .if2 .taken)))
 
+is-within-requires-2 : tie.Need-is-within-requires-2
+is-within-requires-2 c κs = search needs
+
 returns-3 : tie.Need-returns-3
 unfolding fault
 returns-3 c =
     let e = c .before .before in
     faulty _ _ _ _ _ _ (e .before .before .before .before .before .pre .kept) BinOutside
     (λ before r. rw (eq-eqb _ _ (e .before .before .if1 .left), size-good e, sym (c .before .is-within2 .ensures) ∙ not-true _ (c .if3 .taken)))
+
+cast-at : tie.Need-cast-at
+cast-at c = search needs
+
+mul-held : tie.Need-mul-held
+mul-held c = search needs
+
+element-copy-out-held : tie.Need-element-copy-out-held
+element-copy-out-held c = omega (arith, has-load c)
 
 add-load : tie.Need-add-load
 add-load c =
@@ -60,6 +84,12 @@ returns-4 c =
     faulty _ _ _ _ _ _ (start t .pre .kept) Overfull
     (λ before r. rw (eq-eqb _ _ (e .before .before .if1 .left), size-good e, bin-good t, load before r, lt-ltb _ _ (c .if4 .taken)))
 
+mul-loads : tie.Need-mul-loads
+mul-loads c = search needs
+
+element-write-loads : tie.Need-element-write-loads
+element-write-loads c = omega (arith, has-load (c .before .before))
+
 returns-5 : tie.Need-returns-5
 unfolding fault
 returns-5 c =
@@ -72,6 +102,5 @@ returns-5 c =
 pub check-entry-spec : {M : Type 1} → statement M
 check-entry-spec =
     tie.close
-    (tie.spec (λ c. search needs) (λ c. search needs) (λ c. search needs) returns (λ c κs. search needs) returns-2 (λ c κs. search needs) returns-3
-    (λ c. search needs) (λ c. search needs) (λ c. omega (arith, has-load c)) add-load returns-4
-    (λ c. search needs) (λ c. omega (arith, has-load (c .before .before))) returns-5)
+    (tie.spec mul-item shared-slice-read-item add-place returns is-within-requires returns-2 is-within-requires-2 returns-3 cast-at mul-held
+    element-copy-out-held add-load returns-4 mul-loads element-write-loads returns-5)

@@ -6,6 +6,18 @@ use Rattle.plan_rows.proofs.Walking.{plan-length}
 use Rattle.plan_rows.proofs.check_rows.Statement.{statement}
 use Rattle.plan_rows.proofs.check_rows.Tie as tie
 
+shorter-requires : tie.Need-shorter-requires
+shorter-requires c κs = search needs
+
+check-limits-requires : tie.Need-check-limits-requires
+check-limits-requires c κs = search needs
+
+enum-told : tie.Need-enum-told
+enum-told c = search needs
+
+enum-told-2 : tie.Need-enum-told-2
+enum-told-2 c = search needs
+
 returns : tie.Need-returns
 unfolding check
 returns c =
@@ -17,7 +29,10 @@ check-entries-requires c κs =
     let t = c .before .before in
     rw (← t .before .shorter .ensures) (sym (t .check-limits .ensures) ∙ c .enum-told .given .1)
 
+returns-2 : tie.Need-returns-2
+returns-2 c = search needs
+
 pub check-rows-spec : {M : Type 1} → statement M
 check-rows-spec =
     tie.close
-    (tie.spec (λ c κs. search needs) (λ c κs. search needs) (λ c. search needs) (λ c. search needs) returns check-entries-requires (λ c. search needs))
+    (tie.spec shorter-requires check-limits-requires enum-told enum-told-2 returns check-entries-requires returns-2)

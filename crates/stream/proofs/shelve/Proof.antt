@@ -87,5 +87,6 @@ returns-3 c = ran-result (c .before .before .before .before .answer-all .ensures
 pub shelve-spec : {M : Type 1} → statement M
 shelve-spec =
     tie.close
-    (tie.spec validate-requires enum-known-reason enum-known-opening returns shape-of-requires answer-all-requires cast-items cast-opened returns-2 same-length
+    (tie.spec validate-requires enum-known-reason enum-known-opening returns shape-of-requires answer-all-requires cast-items cast-opened returns-2
+    same-length
     returns-3)
