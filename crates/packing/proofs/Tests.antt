@@ -1,7 +1,7 @@
 -- Facts about truth values, cases and members that several arguments use.
 use Prim.Native.Nat.{ℕ}
 use mathlib.Core.Path.{_≡_, refl, sym, subst}
-use mathlib.Core.Bool.{Bool, true, false, not, _&&_, false≢true}
+use mathlib.Core.Bool.{Bool, true, false, _&&_, false≢true}
 use mathlib.Core.List.{List, _∷_, List·Memᴰ, List·Memᴰ·head, List·Memᴰ·tail}
 use native.Mathlib.Omega.{arith}
 
@@ -12,14 +12,6 @@ clash e = absurd (omega (arith, e))
 pub both-true : (a b : Bool) → (a && b) ≡ true → (a ≡ true) × (b ≡ true)
 both-true true b h = (refl, h)
 both-true false b h = absurd (false≢true h)
-
-pub not-true : (b : Bool) → not b ≡ true → b ≡ false
-not-true true h = absurd (false≢true h)
-not-true false h = refl
-
-pub not-false : (b : Bool) → not b ≡ false → b ≡ true
-not-false true h = refl
-not-false false h = absurd (false≢true (sym h))
 
 -- What holds of the first member and of the rest holds of each.
 pub each-cons : {A : Type 0} (P : A → Type 0) {a : A} {l : List A} → P a → ((x : A) → List·Memᴰ x l → P x) → (x : A) → List·Memᴰ x (a ∷ l) → P x
