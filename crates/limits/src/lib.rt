@@ -3,8 +3,12 @@ use packing::Opening;
 ghost use mathlib.Core.Path.{_≡_};
 ghost use Rattle.packing.specs.Limits.{within, openingGood};
 
-// How many commands may follow the opening.
-pub const MOST_COMMANDS: usize = 4096;
+// The most of a capacity, of commands after the opening, and of the rows of a plan and its k.
+pub const MOST_CAPACITY: u32 = 16_777_216;
+
+pub const MOST_COMMANDS: usize = 4_096;
+
+pub const MOST_ROWS: usize = 4_096;
 
 // Whether a number is within limits, both of them included.
 pub fn is_within(least: u32, most: u32, n: u32) -> bool
@@ -23,7 +27,7 @@ pub fn opening_good(o: Opening) -> bool
     let capacity = o.capacity;
     let stock = o.stock as u32;
     let m = o.m as u32;
-    if is_within(1, 16777216, capacity) {
+    if is_within(1, MOST_CAPACITY, capacity) {
         if is_within(1, 512, stock) {
             return is_within(6, 9, m);
         }

@@ -52,7 +52,7 @@ front b s (Known width) =
     if length s <? width then faulty CutShort else
     whole (commandOf b s) width
 
--- Of a stream that is not empty.
+-- The front of a stream that is not empty. (Of an empty one it is never asked; it has no whole command.)
 abbrev pub frontOf : List ℕ → Front
 frontOf [] = faulty UnknownOpcode
 frontOf (b ∷ s) = front b s (lookup b widths)

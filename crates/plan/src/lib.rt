@@ -1,6 +1,8 @@
 // The plan checker of document 01 over a lent slice of entries: each entry goes to the step of the core (crate plan_rows).
+use limits::MOST_ROWS;
 use packing::Entry;
 use packing::PlanResult;
+use plan_rows::LOADS;
 ghost use mathlib.Core.Path.{_≡_};
 ghost use lib.ListN.{take};
 ghost use Rattle.packing.specs.Refusals.{planGives};
@@ -26,7 +28,7 @@ pub fn check_plan(plan: &[Entry], items: &[u32], capacity: u32, k: u32) -> PlanR
     let rows = plan.len();
     let mut found = plan_limits::check_limits(capacity, k, rows, items.len());
     let mut end = rows_to_walk(found, rows);
-    let mut loads = [0u32; 4097];
+    let mut loads = [0u32; LOADS];
     let mut i: usize = 0;
     while i < end {
         found = plan_rows::check_entry(&mut loads, plan[i], items, i, capacity, k);
@@ -36,9 +38,12 @@ pub fn check_plan(plan: &[Entry], items: &[u32], capacity: u32, k: u32) -> PlanR
     found
 }
 
-// A plan by value: the first len of these entries. It has one place more than a plan may have rows, so that refusal 12 can occur.
+// One place more than a plan may have rows, so that refusal 12 can occur.
+pub const HELD: usize = MOST_ROWS + 1;
+
+// A plan by value: the first len of these entries.
 pub struct HeldPlan {
-    pub entries: [Entry; 4097],
+    pub entries: [Entry; HELD],
     pub len: usize,
 }
 
@@ -48,6 +53,6 @@ pub fn check_held_plan(plan: HeldPlan, items: &[u32], capacity: u32, k: u32) -> 
     ensures exact { λ r. ⌜ Exact capacity k (take (plan .len) (plan .entries)) (now (items .entry)) r ⌝ }
 {
     let entries = plan.entries;
-    let len = plan_limits::shorter(plan.len, 4097);
+    let len = plan_limits::shorter(plan.len, HELD);
     check_plan(&entries[..len], items, capacity, k)
 }

@@ -4,6 +4,7 @@
 use libc::STDOUT_FILENO;
 use packing::Entry;
 use packing::PlanResult;
+use plan::HELD;
 use plan::HeldPlan;
 
 fn show(answer: PlanResult) {
@@ -22,9 +23,9 @@ fn show(answer: PlanResult) {
 
 // The two rows as entries, as many as they both have and a plan by value can hold.
 fn held(sizes: &[u32], bins: &[u32]) -> HeldPlan {
-    let mut entries = [Entry { size: 0, bin: 0 }; 4097];
+    let mut entries = [Entry { size: 0, bin: 0 }; HELD];
     let mut i: usize = 0;
-    while i < 4097 {
+    while i < HELD {
         if sizes.len() <= i {
             break;
         }

@@ -1,16 +1,13 @@
 // What the plan checker of document 01 tests before it looks at an entry: refusals 11, 12, and 16 where the two rows differ in length. A bin is
 // document 01's cartridge, an item its master. Lengths are any 64-bit numbers, and no row is needed here.
+use limits::MOST_CAPACITY;
+use limits::MOST_ROWS;
 use packing::PlanReason;
 use packing::PlanResult;
 ghost use mathlib.Core.Path.{_≡_};
 ghost use mathlib.Core.List.{[], _∷_};
 ghost use Prim.Native.Nat.{min};
 ghost use Rattle.packing.specs.Plans.{lengthsGood, limits};
-
-// "What the shelf consists of": the most of a capacity, and of a plan's rows and its k.
-const MOST_CAPACITY: u32 = 16_777_216;
-
-const MOST_ROWS: usize = 4_096;
 
 pub fn shorter(a: usize, b: usize) -> usize
     ensures { λ r. ⌜ r ≡ min a b ⌝ }

@@ -10,6 +10,7 @@ use lib.ListN.{length, getD, drop, drop-of-length-le, replicate, length-replicat
 use lib.Seq.{drop-cons}
 use Rattle.packing.specs.declared.{Entry.Entry, PlanReason.PlanReason, PlanResult.PlanResult}
 use Rattle.packing.specs.Prelude.{total}
+use Rattle.packing.specs.Limits.{mostCapacity, mostRows}
 use Rattle.packing.specs.Plans.{planOf, _andThen_, limits, fault, entries, check}
 use Rattle.packing.proofs.Limits.{within-limits}
 use Rattle.worst_case.proofs.PlanFits.{passed-within}
@@ -48,7 +49,7 @@ module _ (capacity k : ℕ) where
       by-fault (some reason) p = rw (p, entries, q, add-one)
 
   module _ (plan : List Entry) (items : List ℕ) where
-    pub walk-start : (n : ℕ) → n ≡ 4_097 → Walking capacity k plan items (replicate n 0) 0 (limits capacity k (length plan) (length items))
+    pub walk-start : (n : ℕ) → n ≡ mostRows + 1 → Walking capacity k plan items (replicate n 0) 0 (limits capacity k (length plan) (length items))
     unfolding total check
     walk-start n q = record { before = []; so-far = start; to-come = refl }
       where
@@ -58,7 +59,7 @@ module _ (capacity k : ℕ) where
             record {
               limited = passed;
               kept = record {
-                capacity-most = within-limits 1 16_777_216 capacity (w .capacity-good) .1;
+                capacity-most = within-limits 1 mostCapacity capacity (w .capacity-good) .1;
                 k-most = w .k-good;
                 places = length-replicate n 0 ∙ q;
                 not-overfull = λ j. omega (arith, zeros n j);
@@ -117,10 +118,10 @@ plan-at (s ∷ ss) (b ∷ bs) (suc i) h g = plan-at ss bs i (omega arith) (omega
 
 -- The walk over two rows.
 pub rows-start : (capacity k : ℕ) (sizes bins items : List ℕ) → limits capacity k (min (length sizes) (length bins)) (length items) ≡ PlanResult.Passed
-    → Walking capacity k (planOf sizes bins) items (replicate 4_097 0) 0 PlanResult.Passed
+    → Walking capacity k (planOf sizes bins) items (replicate (mostRows + 1) 0) 0 PlanResult.Passed
 rows-start capacity k sizes bins items limited =
     let passed : limits capacity k (length (planOf sizes bins)) (length items) ≡ PlanResult.Passed = rw (plan-length sizes bins) limited in
-    rw passed at (walk-start capacity k (planOf sizes bins) items 4_097 refl)
+    rw passed at (walk-start capacity k (planOf sizes bins) items (mostRows + 1) refl)
 
 module _ (capacity k : ℕ) (sizes bins items loads : List ℕ) (i : ℕ) (g : Walking capacity k (planOf sizes bins) items loads i PlanResult.Passed) where
   one-length : length (planOf sizes bins) ≡ length items

@@ -5,14 +5,14 @@ use mathlib.Core.List.{List, _∷_}
 use Prim.Native.Nat.{ℕ, _+_, _≤_, _<_}
 use lib.ListN.{length, getD}
 use Rattle.packing.specs.declared.{Entry.Entry, PlanReason.PlanReason, PlanResult.PlanResult}
-use Rattle.packing.specs.Limits.{mostRows}
+use Rattle.packing.specs.Limits.{mostCapacity, mostRows}
 use Rattle.packing.specs.Plans.{onBin, fault}
 
 -- One load for each bin number, none above the capacity. Place 0 is no bin's.
 pub record LoadsKept (capacity k : ℕ) (loads : List ℕ) : Type 0 where
-  pub capacity-most : capacity ≤ 16_777_216
+  pub capacity-most : capacity ≤ mostCapacity
   pub k-most : k ≤ mostRows
-  pub places : length loads ≡ 4_097
+  pub places : length loads ≡ mostRows + 1
   pub not-overfull : (n : ℕ) → getD loads n 0 ≤ capacity
 
 -- The loads are those of these entries.

@@ -1,5 +1,6 @@
 // The core of the plan checker of document 01: the entries' refusals 13 to 16 in its order, each with its place, over number rows. A bin is
 // document 01's cartridge, an item its master. Nothing that the caller lends is written.
+use limits::MOST_ROWS;
 use packing::Entry;
 use packing::PlanReason;
 use packing::PlanResult;
@@ -9,10 +10,13 @@ ghost use lib.ListN.{length};
 ghost use Rattle.packing.specs.Plans.{planOf, limits, check};
 ghost use Rattle.plan_rows.specs.Loads.{Checkable, Checked};
 
+// A load for each bin number; place 0 is no bin's.
+pub const LOADS: usize = MOST_ROWS + 1;
+
 // The entry at place i + 1, where the loads are those of the entries before it: 16, 13, 14, 15. A sound entry's size is added to the load of
 // its bin.
 pub fn check_entry(
-    loads: &mut [u32; 4097],
+    loads: &mut [u32; LOADS],
     entry: Entry,
     items: &[u32],
     i: usize,
@@ -56,7 +60,7 @@ fn check_entries(sizes: &[u32], bins: &[u32], items: &[u32], capacity: u32, k: u
     requires { ⌜ limits capacity k (min (length (now sizes)) (length (now bins))) (length (now items)) ≡ PlanResult.Passed ⌝ }
     ensures { λ r. ⌜ r ≡ check capacity k (planOf (now (sizes .entry)) (now (bins .entry))) (now (items .entry)) ⌝ }
 {
-    let mut loads = [0u32; 4097];
+    let mut loads = [0u32; LOADS];
     let mut i: usize = 0;
     while i < items.len() {
         let size = sizes[i];
