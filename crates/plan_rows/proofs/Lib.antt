@@ -1,3 +1,3 @@
 -- The laws that the core rests on.
 pub mod Steps
-pub mod Walking
+pub mod Checking

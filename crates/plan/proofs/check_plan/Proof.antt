@@ -24,7 +24,7 @@ use Rattle.plan_limits.proofs.check_limits as first-tests
 use Rattle.plan_limits.proofs.check_limits.Symbol as limits-def
 use Rattle.plan_limits.proofs.check_limits.Met as limits-thm
 use Rattle.plan_rows.specs.Loads.{Checked}
-use Rattle.plan_rows.proofs.Walking.{Walking, blank, walk-start, walk-checkable, walk-next, walk-refused, walk-passed}
+use Rattle.plan_rows.proofs.Checking.{Checking, blank, checking-start, checking-checkable, checking-next, checking-refused, checking-passed}
 use Rattle.plan_rows.proofs.check_entry as entry
 use Rattle.plan_rows.proofs.check_entry.Symbol as entry-def
 use Rattle.plan_rows.proofs.check_entry.Met as entry-thm
@@ -126,7 +126,7 @@ module _ {M : Type 1} (𝓤 : URA M) (H : Heap 𝓤) (A : Atoms 𝓤) (W : Given
     loads : List ℕ
     found : PlanResult
     is : Is D.the-row found (told found ∷ [])
-    walking : Walking cap k ys (now ms) loads i found
+    checking : Checking cap k ys (now ms) loads i found
 
   abbrev Nearer : St → St → Type 0
   Nearer t s = n - t .i < n - s .i
@@ -146,8 +146,8 @@ module _ {M : Type 1} (𝓤 : URA M) (H : Heap 𝓤) (A : Atoms 𝓤) (W : Given
     answered over = by-found (s .found) refl
       where
         by-found : (r : PlanResult) → s .found ≡ r → s .found ≡ check cap k ys (now ms)
-        by-found PlanResult.Passed e = walk-passed cap k ys (now ms) _ (s .i) _ (s .walking) e (rw e at (nltb→le (s .i) end over))
-        by-found (PlanResult.Refused reason place) e = walk-refused cap k ys (now ms) _ _ _ (s .walking) reason place e
+        by-found PlanResult.Passed e = checking-passed cap k ys (now ms) _ (s .i) _ (s .checking) e (rw e at (nltb→le (s .i) end over))
+        by-found (PlanResult.Refused reason place) e = checking-refused cap k ys (now ms) _ _ _ (s .checking) reason place e
 
     module _ (less : T (ltb (s .i) end)) where
       left : (s .found ≡ PlanResult.Passed) × (s .i < n)
@@ -161,7 +161,7 @@ module _ {M : Type 1} (𝓤 : URA M) (H : Heap 𝓤) (A : Atoms 𝓤) (W : Given
 
       abbrev next : (r : PlanResult) (exit : List ℕ) → Is D.the-row r (told r ∷ []) → Checked cap k (s .loads) here (now ms) (s .i) r exit → St
       next r exit is d =
-          record { i = s .i + 1; loads = exit; found = r; is = is; walking = walk-next cap k ys (now ms) _ _ _ (s .walking) (left .0) (left .1) here refl r exit d }
+          record { i = s .i + 1; loads = exit; found = r; is = is; checking = checking-next cap k ys (now ms) _ _ _ (s .checking) (left .0) (left .1) here refl r exit d }
 
       falls : n - (s .i + 1) < n - s .i
       falls = omega (arith, left .1)
@@ -212,7 +212,7 @@ module _ {M : Type 1} (𝓤 : URA M) (H : Heap 𝓤) (A : Atoms 𝓤) (W : Given
     goes-entry : (s : St) (ν : ℕ) (δ : GName) → T (ltb (s .i) (end s)) → Is P.the-row (here s) (spelled (here s) ∷ [])
         → ent 𝓤 (⋆ 𝓤 H A (Asked s ν δ)) (promise 𝓤 H A entry.ended (entry.clauses 𝓤 H A mem run) .pre (to-entry s ν δ))
     goes-entry s ν δ less is =
-        qed W (Asked s ν δ) ∵ says ! (walk-checkable cap k ys (now ms) _ _ _ (s .walking) (left s less .0) (left s less .1)) $
+        qed W (Asked s ν δ) ∵ says ! (checking-checkable cap k ys (now ms) _ _ _ (s .checking) (left s less .0) (left s less .1)) $
         nothing ! $ move ! (2 ∷ 0 ∷ []) $ join ! $ move ! (1 ∷ 0 ∷ []) $ join ! $ frame ! $
         -- [the loads; the items]: what the parameters own, from the last
         nothing ! $ number ! w32 k gk $ number ! w32 cap gc $ number ! w64 (s .i) (omega (arith, left s less .1, gn .0)) $ move ! (2 ∷ 0 ∷ []) $ fjoin ! $
@@ -281,7 +281,7 @@ module _ {M : Type 1} (𝓤 : URA M) (H : Heap 𝓤) (A : Atoms 𝓤) (W : Given
       move ! (2 ∷ []) $ fsplit ! $ move ! (6 ∷ []) $ split ! $ move ! (1 ∷ []) $ split ! $
       -- [the items' token; true; the plan's token; the items; the numbers; the plan's borrow; the plan; the loads; the locals]
       keep ! (8 ∷ 7 ∷ 5 ∷ 2 ∷ 0 ∷ 6 ∷ 3 ∷ []) $ clears ! (10 ∷ 15 ∷ []) $ first ! $ blocks ! $
-      loops ! 𝓣 Nearer Nearer-wf (At l) (turns l) (record { i = 0; loads = zeros; found = limited; is = is; walking = walk-start cap k ys (now ms) 4097 refl }))))
+      loops ! 𝓣 Nearer Nearer-wf (At l) (turns l) (record { i = 0; loads = zeros; found = limited; is = is; checking = checking-start cap k ys (now ms) 4097 refl }))))
 
 pub check-plan-spec : {M : Type 1} → stated.statement M
 unfolding code.routine tablesOf

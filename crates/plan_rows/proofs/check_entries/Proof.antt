@@ -4,12 +4,12 @@ use borrow.Author.Needs.{needs}
 use lib.ListN.{length}
 use Rattle.packing.specs.declared.{PlanResult.PlanResult}
 use Rattle.packing.specs.Plans.{planOf}
-use Rattle.plan_rows.proofs.Walking.{Walking, walk-refused, rows-start, rows-inside, rows-checkable, rows-next, rows-passed}
+use Rattle.plan_rows.proofs.Checking.{Checking, checking-refused, rows-start, rows-inside, rows-checkable, rows-next, rows-passed}
 use Rattle.plan_rows.proofs.check_entries.Statement.{statement}
 use Rattle.plan_rows.proofs.check_entries.Tie as tie
 
 abbrev Inv-loop : tie.InvT-loop
-Inv-loop sizes bins items capacity k loads₀ i₀ loads i = Walking capacity k (planOf sizes bins) items loads i PlanResult.Passed
+Inv-loop sizes bins items capacity k loads₀ i₀ loads i = Checking capacity k (planOf sizes bins) items loads i PlanResult.Passed
 
 abbrev μ-loop : tie.MeasureT-loop
 μ-loop sizes bins items capacity k loads₀ i₀ loads i = length items - i
@@ -42,7 +42,7 @@ returns : tie.Need-returns Inv-loop μ-loop
 returns c =
     let d = c .before .before in
     let l = d .before .before .before .before in
-    walk-refused _ _ _ _ _ _ _ (rows-next _ _ _ _ _ _ _ (l .before .loop .inv) (l .loop-test .taken) _ _ (d .check-entry .ensures)) _ _ (c .enum-told2 .given .1)
+    checking-refused _ _ _ _ _ _ _ (rows-next _ _ _ _ _ _ _ (l .before .loop .inv) (l .loop-test .taken) _ _ (d .check-entry .ensures)) _ _ (c .enum-told2 .given .1)
 
 add-i : tie.Need-add-i Inv-loop μ-loop
 add-i c = search needs

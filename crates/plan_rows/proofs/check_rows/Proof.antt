@@ -2,7 +2,7 @@
 use mathlib.Core.Path.{sym, _∙_}
 use borrow.Author.Needs.{needs}
 use Rattle.packing.specs.Plans.{check}
-use Rattle.plan_rows.proofs.Walking.{plan-length}
+use Rattle.plan_rows.proofs.Checking.{plan-length}
 use Rattle.plan_rows.proofs.check_rows.Statement.{statement}
 use Rattle.plan_rows.proofs.check_rows.Tie as tie
 

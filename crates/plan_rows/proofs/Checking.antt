@@ -26,7 +26,7 @@ pub record SoFar (capacity k : ℕ) (plan : List Entry) (items loads : List ℕ)
   pub stands : LoadsOf loads before
   pub places : length before ≡ i
 
-pub record Walking (capacity k : ℕ) (plan : List Entry) (items loads : List ℕ) (i : ℕ) (found : PlanResult) : Type 0 where
+pub record Checking (capacity k : ℕ) (plan : List Entry) (items loads : List ℕ) (i : ℕ) (found : PlanResult) : Type 0 where
   pub before : List Entry
   pub so-far : found ≡ PlanResult.Passed → SoFar capacity k plan items loads i before
   pub to-come : (found andThen entries capacity k before (drop i plan) (drop i items)) ≡ check capacity k plan items
@@ -49,9 +49,9 @@ module _ (capacity k : ℕ) where
       by-fault (some reason) p = rw (p, entries, q, add-one)
 
   module _ (plan : List Entry) (items : List ℕ) where
-    pub walk-start : (n : ℕ) → n ≡ mostRows + 1 → Walking capacity k plan items (replicate n 0) 0 (limits capacity k (length plan) (length items))
+    pub checking-start : (n : ℕ) → n ≡ mostRows + 1 → Checking capacity k plan items (replicate n 0) 0 (limits capacity k (length plan) (length items))
     unfolding total check
-    walk-start n q = record { before = []; so-far = start; to-come = refl }
+    checking-start n q = record { before = []; so-far = start; to-come = refl }
       where
         start : limits capacity k (length plan) (length items) ≡ PlanResult.Passed → SoFar capacity k plan items (replicate n 0) 0 []
         start passed =
@@ -68,7 +68,7 @@ module _ (capacity k : ℕ) where
               places = refl;
             }
 
-    module _ (loads : List ℕ) (i : ℕ) (found : PlanResult) (g : Walking capacity k plan items loads i found) where
+    module _ (loads : List ℕ) (i : ℕ) (found : PlanResult) (g : Checking capacity k plan items loads i found) where
       module _ (passed : found ≡ PlanResult.Passed) (h : i < length plan) where
         w : SoFar capacity k plan items loads i (g .before)
         w = g .so-far passed
@@ -76,12 +76,12 @@ module _ (capacity k : ℕ) where
         in-items : i < length items
         in-items = omega (arith, passed-within capacity k (length plan) (length items) (w .limited) .one-length)
 
-        pub walk-checkable : Checkable capacity k loads items i
-        walk-checkable = record { kept = w .kept; in-items = in-items }
+        pub checking-checkable : Checkable capacity k loads items i
+        checking-checkable = record { kept = w .kept; in-items = in-items }
 
-        pub walk-next : (e : Entry) → getD plan i blank ≡ e → (answer : PlanResult) (exit : List ℕ) → Checked capacity k loads e items i answer exit
-            → Walking capacity k plan items exit (i + 1) answer
-        walk-next e here answer exit d = record {
+        pub checking-next : (e : Entry) → getD plan i blank ≡ e → (answer : PlanResult) (exit : List ℕ) → Checked capacity k loads e items i answer exit
+            → Checking capacity k plan items exit (i + 1) answer
+        checking-next e here answer exit d = record {
           before = e ∷ g .before;
           so-far = λ q.
               record { limited = w .limited; kept = d .kept; stands = d .added q (g .before) (w .stands); places = rw add-one (ap suc (w .places)) };
@@ -92,12 +92,12 @@ module _ (capacity k : ℕ) where
             now-here = rw (passed, drop-cons plan i blank h, here, drop-cons items i 0 in-items) at (g .to-come)
 
       -- it ends where something is refused, and where no entry is left
-      pub walk-refused : (reason : PlanReason) (place : ℕ) → found ≡ PlanResult.Refused reason place → found ≡ check capacity k plan items
-      walk-refused reason place q = q ∙ (rw q at (g .to-come))
+      pub checking-refused : (reason : PlanReason) (place : ℕ) → found ≡ PlanResult.Refused reason place → found ≡ check capacity k plan items
+      checking-refused reason place q = q ∙ (rw q at (g .to-come))
 
-      pub walk-passed : found ≡ PlanResult.Passed → length plan ≤ i → found ≡ check capacity k plan items
+      pub checking-passed : found ≡ PlanResult.Passed → length plan ≤ i → found ≡ check capacity k plan items
       unfolding entries
-      walk-passed q h = q ∙ (rw (q, drop-of-length-le plan {i = i} h) at (g .to-come))
+      checking-passed q h = q ∙ (rw (q, drop-of-length-le plan {i = i} h) at (g .to-come))
 
 -- The plan of two rows, place by place.
 pub plan-length : (sizes bins : List ℕ) → length (planOf sizes bins) ≡ min (length sizes) (length bins)
@@ -118,12 +118,12 @@ plan-at (s ∷ ss) (b ∷ bs) (suc i) h g = plan-at ss bs i (omega arith) (omega
 
 -- The walk over two rows.
 pub rows-start : (capacity k : ℕ) (sizes bins items : List ℕ) → limits capacity k (min (length sizes) (length bins)) (length items) ≡ PlanResult.Passed
-    → Walking capacity k (planOf sizes bins) items (replicate (mostRows + 1) 0) 0 PlanResult.Passed
+    → Checking capacity k (planOf sizes bins) items (replicate (mostRows + 1) 0) 0 PlanResult.Passed
 rows-start capacity k sizes bins items limited =
     let passed : limits capacity k (length (planOf sizes bins)) (length items) ≡ PlanResult.Passed = rw (plan-length sizes bins) limited in
-    rw passed at (walk-start capacity k (planOf sizes bins) items (mostRows + 1) refl)
+    rw passed at (checking-start capacity k (planOf sizes bins) items (mostRows + 1) refl)
 
-module _ (capacity k : ℕ) (sizes bins items loads : List ℕ) (i : ℕ) (g : Walking capacity k (planOf sizes bins) items loads i PlanResult.Passed) where
+module _ (capacity k : ℕ) (sizes bins items loads : List ℕ) (i : ℕ) (g : Checking capacity k (planOf sizes bins) items loads i PlanResult.Passed) where
   one-length : length (planOf sizes bins) ≡ length items
   one-length = passed-within capacity k (length (planOf sizes bins)) (length items) (g .so-far refl .limited) .one-length
 
@@ -135,11 +135,11 @@ module _ (capacity k : ℕ) (sizes bins items loads : List ℕ) (i : ℕ) (g : W
     in-plan = omega (arith, one-length)
 
     pub rows-checkable : Checkable capacity k loads items i
-    rows-checkable = walk-checkable capacity k (planOf sizes bins) items loads i PlanResult.Passed g refl in-plan
+    rows-checkable = checking-checkable capacity k (planOf sizes bins) items loads i PlanResult.Passed g refl in-plan
 
     pub rows-next : (answer : PlanResult) (exit : List ℕ) → Checked capacity k loads (entryAt sizes bins i) items i answer exit
-        → Walking capacity k (planOf sizes bins) items exit (i + 1) answer
-    rows-next = walk-next capacity k (planOf sizes bins) items loads i PlanResult.Passed g refl in-plan _ (plan-at sizes bins i (rows-inside .0) (rows-inside .1))
+        → Checking capacity k (planOf sizes bins) items exit (i + 1) answer
+    rows-next = checking-next capacity k (planOf sizes bins) items loads i PlanResult.Passed g refl in-plan _ (plan-at sizes bins i (rows-inside .0) (rows-inside .1))
 
   pub rows-passed : length items ≤ i → PlanResult.Passed ≡ check capacity k (planOf sizes bins) items
-  rows-passed h = walk-passed capacity k (planOf sizes bins) items loads i PlanResult.Passed g refl (omega (arith, one-length))
+  rows-passed h = checking-passed capacity k (planOf sizes bins) items loads i PlanResult.Passed g refl (omega (arith, one-length))
