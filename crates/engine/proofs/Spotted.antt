@@ -20,7 +20,7 @@ use Rattle.packing.proofs.Putting.{fresh}
 use Rattle.packing.proofs.Decided.{is-spent, decides}
 use Rattle.tournament.specs.declared.{Shape.Shape, Found.Found}
 use Rattle.tournament.specs.declared.Found.the-variants.{At, Nothing}
-use Rattle.tournament.specs.FirstFit as found
+use Rattle.tournament.specs.LowestFit.{lowestFit}
 use Rattle.tournament.proofs.Fits.{Lowest, Meaning, meaning}
 use Rattle.aim.specs.declared.Counters.{Counters}
 use Rattle.aim.specs.Aims.{aim, home}
@@ -138,7 +138,7 @@ Says o shape w size n Spent = (p : Packing) → Represents o shape w p → decis
 
 pub says : {o : Opening} {c : Counters} {size n : ℕ} → Aimed o c size n → {shape : Shape} {t : List ℕ} → Sound o shape (held t c)
     → Says o shape (held t c) size n (spotFor o shape t (c .opened) n size)
-says {o} {c} {size} {n} a {shape} {t} sound = go (found.firstFit size (shownBy t shape n)) (meaning size (shownBy t shape n))
+says {o} {c} {size} {n} a {shape} {t} sound = go (lowestFit size (shownBy t shape n)) (meaning size (shownBy t shape n))
   where
     go : (f : Found) → Meaning size (shownBy t shape n) f → Says o shape (held t c) size n (spotAt o shape t (c .opened) n size f)
     go (At i) f =

@@ -6,7 +6,7 @@ use Rattle.packing.specs.declared.Opening.{Opening}
 use Rattle.packing.specs.Prelude.{_=?_, if_then_else_}
 use Rattle.tournament.specs.declared.{Shape.Shape, Found.Found}
 use Rattle.tournament.specs.declared.Found.the-variants.{At, Nothing}
-use Rattle.tournament.specs.FirstFit.{firstFit}
+use Rattle.tournament.specs.LowestFit.{lowestFit}
 use Rattle.engine.specs.declared.{Spot.Spot, Offer.Offer}
 use Rattle.engine.specs.declared.Offer.the-variants.{Here, Spent}
 use Rattle.engine.specs.Store.{shownBy, shownAt}
@@ -25,4 +25,4 @@ module _ (o : Opening) (shape : Shape) (trees : List ℕ) (opened tree size : �
   spotAt Nothing = if leb (o .stock) opened then Spent else Here anew
 
   abbrev pub spotFor : Offer
-  spotFor = spotAt (firstFit size (shownBy trees shape tree))
+  spotFor = spotAt (lowestFit size (shownBy trees shape tree))

@@ -8,7 +8,7 @@ use lib.ListN.{length, getD}
 use borrow.Author.Tests.{le-leb, lt-leb}
 use Rattle.tournament.specs.declared.Found.{Found}
 use Rattle.tournament.specs.declared.Found.the-variants.{At, Nothing}
-use Rattle.tournament.specs.FirstFit.{further, firstFit}
+use Rattle.tournament.specs.LowestFit.{further, lowestFit}
 
 -- Place i is the first of the list that holds need or more.
 pub record Lowest (need : ℕ) (vs : List ℕ) (i : ℕ) : Type 0 where
@@ -39,17 +39,17 @@ one-further need v vs (At i) l m = record {
 }
 one-further need v vs Nothing l m = none-before need v vs (length vs) l m
 
-pub meaning : (need : ℕ) (vs : List ℕ) → Meaning need vs (firstFit need vs)
-unfolding firstFit
+pub meaning : (need : ℕ) (vs : List ℕ) → Meaning need vs (lowestFit need vs)
+unfolding lowestFit
 meaning need [] = λ k b. absurd (omega arith)
 meaning need (v ∷ vs) = elim (decLe need v) [
   | yes y ↦ rw (le-leb need v y) (record { inside = omega arith; enough = y; before = λ k b. absurd (omega arith) })
-  | no y ↦ rw (lt-leb need v (omega (arith, y))) (one-further need v vs (firstFit need vs) (omega (arith, y)) (meaning need vs))
+  | no y ↦ rw (lt-leb need v (omega (arith, y))) (one-further need v vs (lowestFit need vs) (omega (arith, y)) (meaning need vs))
 ]
 
 -- Only what first fit answers has its meaning.
-pub meant : (need : ℕ) (vs : List ℕ) (f : Found) → Meaning need vs f → f ≡ firstFit need vs
-unfolding firstFit
+pub meant : (need : ℕ) (vs : List ℕ) (f : Found) → Meaning need vs f → f ≡ lowestFit need vs
+unfolding lowestFit
 meant need [] (At i) m = absurd (omega (arith, m .inside))
 meant need [] Nothing m = refl
 meant need (v ∷ vs) (At zero) m = rw (le-leb need v (m .enough))

@@ -14,7 +14,7 @@ use borrow.Author.Tests.{le-leb, lt-leb}
 use Rattle.tournament.specs.declared.Shape.{Shape}
 use Rattle.tournament.specs.declared.Found.the-variants.{At, Nothing}
 use Rattle.tournament.specs.Trees.{rowWords, node, leaves, Tree}
-use Rattle.tournament.specs.FirstFit.{firstFit}
+use Rattle.tournament.specs.LowestFit.{lowestFit}
 use Rattle.tournament.specs.Descent.{Under, Descent, First}
 use Rattle.tournament.proofs.Fits.{meant}
 use Rattle.tournament.proofs.Leaves.{leaf-node, leaves-length}
@@ -121,7 +121,7 @@ module _ {b : ℕ} {shape : Shape} {t : List ℕ} (tree : Tree b shape t) where
   root need l = record { under = root-under; room = omega (arith, tree .power, tree .room); enough = l }
 
   pub root-found : (need leaf : ℕ) → First t b 1 (shape .height) need leaf
-      → At (leaf - shape .places) ≡ firstFit need (leaves t b (shape .places))
+      → At (leaf - shape .places) ≡ lowestFit need (leaves t b (shape .places))
   root-found need leaf f =
       let place = leaf - shape .places in
       let node-of : shape .places + place ≡ leaf = omega (arith, f .low, tree .power) in
@@ -134,7 +134,7 @@ module _ {b : ℕ} {shape : Shape} {t : List ℕ} (tree : Tree b shape t) where
             (f .before (shape .places + k) (omega (arith, tree .power)) (omega arith));
       })
 
-  pub root-lacking : (need : ℕ) → node t b 1 < need → Nothing ≡ firstFit need (leaves t b (shape .places))
+  pub root-lacking : (need : ℕ) → node t b 1 < need → Nothing ≡ lowestFit need (leaves t b (shape .places))
   root-lacking need l =
       meant need (leaves t b (shape .places)) Nothing (λ k x.
       let inside : k < shape .places = omega (arith, count) in

@@ -1,5 +1,5 @@
 -- What the tournament tree is and what its calls promise: its shape, the row it stands in, first fit, the descent.
 pub mod Shapes
 pub mod Trees
-pub mod FirstFit
+pub mod LowestFit
 pub mod Descent

@@ -7,7 +7,7 @@ ghost use lib.Dec.{leb};
 ghost use lib.ListN.{getD};
 ghost use Rattle.tournament.specs.Shapes.{Fitted};
 ghost use Rattle.tournament.specs.Trees.{leaves, Tree};
-ghost use Rattle.tournament.specs.FirstFit.{firstFit};
+ghost use Rattle.tournament.specs.LowestFit.{lowestFit};
 ghost use Rattle.tournament.specs.Descent.{Descent, First};
 
 // How far apart two trees stand in the row: as many words as a tree of 512 places takes.
@@ -81,7 +81,7 @@ fn descend(
 pub fn search(t: &[u32; ROW_WORDS], base: usize, shape: Shape, need: u32) -> Found
     requires tree { ⌜ Tree base shape (now t) ⌝ }
     requires some { ⌜ 1 ≤ need ⌝ }
-    ensures { λ r. ⌜ r ≡ firstFit need (leaves (now (t .entry)) base (shape .places)) ⌝ }
+    ensures { λ r. ⌜ r ≡ lowestFit need (leaves (now (t .entry)) base (shape .places)) ⌝ }
 {
     let places = shape.places;
     let height = shape.height;

@@ -6,7 +6,7 @@ use native.Mathlib.Omega.{arith}
 use borrow.Author.Tests.{le-leb, lt-leb}
 use borrow.Author.Needs.{needs}
 use Rattle.tournament.specs.declared.Found.the-variants.{At, Nothing}
-use Rattle.tournament.specs.FirstFit.{firstFit}
+use Rattle.tournament.specs.LowestFit.{lowestFit}
 use Rattle.tournament.proofs.Fits.{Lowest, Meaning, meaning}
 use Rattle.engine.specs.Store.{shownBy}
 use Rattle.engine.proofs.Forests.{leaf-count}
@@ -20,7 +20,7 @@ row s = shownBy (s .args .trees .now) (s .args .shape) (s .args .tree)
 abbrev begun : tie.After-known-told → tie.Start
 begun c = c .before .before .before .before
 
-first : (c : tie.After-known-told) → firstFit (begun c .args .size) (row (begun c)) ≡ At (c .before .found .given .0 .0)
+first : (c : tie.After-known-told) → lowestFit (begun c .args .size) (row (begun c)) ≡ At (c .before .found .given .0 .0)
 first c = sym (c .before .before .before .search .ensures) ∙ c .before .found .given .1
 
 lowest : (c : tie.After-known-told) → Lowest (begun c .args .size) (row (begun c)) (c .before .found .given .0 .0)
@@ -30,7 +30,7 @@ lowest c = subst (Meaning (begun c .args .size) (row (begun c))) (first c) (mean
 abbrev missed : tie.After-enum-told → tie.Start
 missed c = c .before .before .before
 
-none : (c : tie.After-enum-told) → firstFit (missed c .args .size) (row (missed c)) ≡ Nothing
+none : (c : tie.After-enum-told) → lowestFit (missed c .args .size) (row (missed c)) ≡ Nothing
 none c = sym (c .before .before .search .ensures) ∙ c .enum-told .given .1
 
 mul-base : tie.Need-mul-base

@@ -1,4 +1,4 @@
--- First fit on a plain list: the lowest place whose value is at least what is needed, or none.
+-- The lowest place of a plain list whose value is at least what is needed, or none.
 use mathlib.Core.Bool.{cond}
 use mathlib.Core.List.{List, [], _∷_}
 use Prim.Native.Nat.{ℕ, suc}
@@ -11,6 +11,6 @@ abbrev pub further : Found → Found
 further (At i) = At (suc i)
 further Nothing = Nothing
 
-unfoldable pub firstFit : (need : ℕ) → List ℕ → Found
-firstFit need [] = Nothing
-firstFit need (v ∷ vs) = cond (leb need v) (At 0) (further (firstFit need vs))
+unfoldable pub lowestFit : (need : ℕ) → List ℕ → Found
+lowestFit need [] = Nothing
+lowestFit need (v ∷ vs) = cond (leb need v) (At 0) (further (lowestFit need vs))
