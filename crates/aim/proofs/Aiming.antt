@@ -11,9 +11,9 @@ use borrow.Author.Tests.{eq-eqb, ne-eqb}
 use Rattle.packing.specs.declared.{Opening.Opening, SizeClass.SizeClass}
 use Rattle.packing.specs.declared.SizeClass.the-variants.{A, B1, B2, X}
 use Rattle.packing.specs.Prelude.{if_then_else_}
-use Rattle.packing.specs.SizeClasses.{countB2}
+use Rattle.packing.specs.SizeClasses.{isA, countB2}
 use Rattle.packing.specs.Placing.{toClass, besideA, targetOf}
-use Rattle.aim.specs.Aims.{aim, home, treeFor, phaseAfter}
+use Rattle.aim.specs.Aims.{aim, home, treeFor, aFor, phaseAfter}
 
 -- One more B2 ends the phase, or it is one further on.
 b2-phase : (before phase m : ℕ) → phase ≡ before % m → phase < m → suc before % m ≡ (if eqb (phase + 1) m then 0 else phase + 1)
@@ -34,6 +34,24 @@ aims o before phase B2 e l = rw (b2-phase before phase (o .m) e l) (go (eqb (pha
     go : (last : Bool) → (if eqb (if last then 0 else phase + 1) 0 then besideA else toClass 3) ≡ aim (if last then 0 else 3)
     go true = refl
     go false = rw (ne-eqb (phase + 1) 0 (λ q. omega arith))
+
+-- An A adds one to the A's of its bin, and no other item does.
+pub as-for : (phase m : ℕ) (k : SizeClass) → aFor (treeFor k phase m) ≡ (if isA k then 1 else 0)
+as-for phase m A = refl
+as-for phase m B1 = refl
+as-for phase m X = refl
+as-for phase m B2 = go (eqb (phase + 1) m)
+  where
+    go : (last : Bool) → aFor (if last then 0 else 3) ≡ 0
+    go true = refl
+    go false = refl
+
+pub a-few : (tree : ℕ) → aFor tree ≤ 1
+a-few tree = go (eqb tree 1)
+  where
+    go : (x : Bool) → (if x then 1 else 0) ≤ 1
+    go true = omega arith
+    go false = omega arith
 
 pub phases : (before phase m : ℕ) (k : SizeClass) → phase ≡ before % m → phase < m → phaseAfter (treeFor k phase m) phase ≡ (before + countB2 k) % m
 phases before phase m A e l = rw add-zero e

@@ -27,6 +27,10 @@ treesWith b2 = record { a = 1; b1 = 2; b2 = b2; x = 4 }
 abbrev pub treeFor : SizeClass → (phase m : ℕ) → ℕ
 treeFor k phase m = numberOf (treesWith (b2Tree phase m)) k
 
+-- What an item adds to the A's of its bin: only an A is searched for in tree 1.
+abbrev pub aFor : (tree : ℕ) → ℕ
+aFor tree = if tree =? 1 then 1 else 0
+
 -- The phase once an item is accepted: only B2 items are searched for in the trees 0 and 3, and they count.
 abbrev pub phaseAfter : (tree phase : ℕ) → ℕ
 phaseAfter tree phase = if tree =? 0 then 0 else (if tree =? 3 then phase + 1 else phase)

@@ -4,7 +4,7 @@ use packing::PerClass;
 ghost use mathlib.Core.Path.{_≡_};
 ghost use Prim.Native.Nat.{_<_};
 ghost use Rattle.packing.specs.SizeClasses.{sizeClass};
-ghost use Rattle.aim.specs.Aims.{home, b2Tree, treeFor, phaseAfter, accepting};
+ghost use Rattle.aim.specs.Aims.{home, b2Tree, treeFor, aFor, phaseAfter, accepting};
 
 // The bins opened, the B2 items accepted since the last m-th, and the items accepted. (Of one width, so that nothing lies between them: the
 // compiler then keeps each in a register.)
@@ -43,6 +43,13 @@ pub fn home_of(tree: usize) -> usize
     ensures { λ r. ⌜ r ≡ home tree ⌝ }
 {
     if tree == 0 { 1 } else { tree }
+}
+
+// What an item that is searched for in this tree adds to the A's of its bin: only an A is searched for in tree 1.
+pub fn a_for(tree: usize) -> u32
+    ensures { λ r. ⌜ r ≡ aFor tree ⌝ }
+{
+    if tree == 1 { 1 } else { 0 }
 }
 
 // The phase once an item is accepted that was searched for in this tree: a B2 counts, in whichever class it lies.

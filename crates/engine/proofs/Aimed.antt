@@ -2,17 +2,15 @@
 use mathlib.Core.Path.{_≡_, sym, ap, _∙_}
 use mathlib.Core.List.{List}
 use Prim.Native.Nat.{ℕ, _%_, _≤_, _<_}
-use lib.Dec.{leb}
 use Rattle.packing.specs.declared.Opening.{Opening}
-use Rattle.packing.specs.Bins.{Bin, Packing, kind}
-use Rattle.packing.specs.Placing.{target, takes, placed}
+use Rattle.packing.specs.Bins.{Packing, kind}
+use Rattle.packing.specs.Placing.{target, placed}
 use Rattle.packing.specs.Run.{item}
-use Rattle.tournament.specs.declared.Shape.{Shape}
 use Rattle.aim.specs.declared.Counters.{Counters}
-use Rattle.aim.specs.Aims.{aim, home, treeFor, phaseAfter}
-use Rattle.aim.proofs.Aiming.{aims, phases, phase-below, tree-below, home-below}
-use Rattle.engine.specs.Store.{held, shows, Represents}
-use Rattle.engine.proofs.Shows.{agree}
+use Rattle.aim.specs.Aims.{aim, home, treeFor, aFor, phaseAfter}
+use Rattle.aim.proofs.Aiming.{aims, as-for, phases, phase-below, tree-below, home-below}
+use Rattle.ledger.proofs.Entering.{oneA}
+use Rattle.engine.specs.Store.{store, Represents}
 
 -- What the code has found out of an item before it searches: that a bin can hold it, and the tree n.
 pub record Aimed (o : Opening) (c : Counters) (size n : ℕ) : Type 0 where
@@ -31,12 +29,12 @@ module _ {o : Opening} {c : Counters} {size n : ℕ} (a : Aimed o c size n) wher
   pub phase-few : phaseAfter n (c .phase) < o .m
   phase-few = rw (a .tree) (phase-below (c .phase) (o .m) (kind o (item size)) (a .phase))
 
-  module _ {shape : Shape} {t : List ℕ} {p : Packing} (r : Represents o shape (held t c) p) where
+  pub a-more : aFor n ≡ oneA o (item size)
+  a-more = rw (a .tree) (as-for (c .phase) (o .m) (kind o (item size)))
+
+  module _ {t : List ℕ} {ledger : List (List ℕ)} {p : Packing} (r : Represents o (store t ledger c) p) where
     pub aimed : target o p (item size) ≡ aim n
     aimed = aims o (p .b2s) (c .phase) (kind o (item size)) (r .b2s) (a .phase) ∙ ap aim (sym (a .tree))
-
-    pub fit : (b : Bin) → takes o p (item size) b ≡ leb size (shows o n b)
-    fit = agree o p (item size) n (a .some) aimed
 
     pub phase-after : phaseAfter n (c .phase) ≡ placed o p (item size) .b2s % o .m
     unfolding placed

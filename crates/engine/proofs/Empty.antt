@@ -1,18 +1,24 @@
--- The store at the opening: a row of zeros and counters at 0 are sound and represent the empty packing.
+-- The store at the opening: rows of zeros and counters at 0 are sound and represent the empty packing.
 use mathlib.Core.Path.{_≡_, refl, sym, _∙_}
 use mathlib.Core.Bool.{true}
+use mathlib.Core.List.{[]}
 use Prim.Native.Nat.{ℕ, _+_, _*_, _<_}
 use native.Mathlib.Nat.{zero-mod}
 use native.Mathlib.Omega.{arith}
 use lib.ListN.{getD, replicate, length-replicate, getD-replicate}
 use Rattle.packing.specs.declared.Opening.{Opening}
 use Rattle.packing.specs.Limits.{openingGood}
+use Rattle.packing.specs.Bins.{empty}
 use Rattle.packing.proofs.Limits.{in-limits}
 use Rattle.tournament.specs.declared.Shape.{Shape}
 use Rattle.tournament.specs.Shapes.{Fitted}
 use Rattle.tournament.specs.Trees.{stride, rowWords}
 use Rattle.tournament.proofs.Leaves.{leaf-node}
-use Rattle.engine.specs.Store.{base, Forest, EmptyStore}
+use Rattle.ledger.specs.Rows.{places, blank, rowAt}
+use Rattle.ledger.proofs.Offering.{offers-blank}
+use Rattle.ledger.proofs.Empty.{empty-records}
+use Rattle.index.specs.Trees.{base, Forest}
+use Rattle.engine.specs.Store.{store, Few, Represents, atOpening, EmptyStore}
 
 module _ (o : Opening) (shape : Shape) (n : ℕ) (words : n ≡ rowWords) (good : openingGood o ≡ true) (fitted : Fitted (o .stock) shape) where
   -- Every word of every tree is 0.
@@ -32,12 +38,30 @@ module _ (o : Opening) (shape : Shape) (n : ℕ) (words : n ≡ rowWords) (good 
     };
   }
 
-  pub empty-store : EmptyStore o shape (replicate n 0)
+  blank-at : (i : ℕ) → i < places → rowAt (replicate places blank) i ≡ blank
+  blank-at i l = getD-replicate places i blank [] l
+
+  few-at : (i : ℕ) → i < places → Few 0 (rowAt (replicate places blank) i)
+  few-at i l = rw (blank-at i l) (record { held = omega arith; held-a = omega arith })
+
+  nothing : Represents o (store (replicate n 0) (replicate places blank) atOpening) empty
+  nothing = record { bins = refl; b2s = sym (zero-mod (o .m)); records = empty-records o }
+
+  pub empty-store : EmptyStore o shape (replicate n 0) (replicate places blank)
   empty-store = record {
-    sound = record { forest = zero-forest; stock = fitted .enough; within = omega arith; phase = omega (arith, in-limits o good .m) };
-    represents = record {
-      bins = refl;
-      b2s = sym (zero-mod (o .m));
-      shown = λ k i a b. leaf-node (replicate n 0) (base k) (shape .places) i b ∙ zeros k (shape .places + i) a (omega (arith, fitted .few));
+    sound = record {
+      index = record {
+        forest = zero-forest;
+        leaf = λ k i a b.
+            leaf-node (replicate n 0) (base k) (shape .places) i b ∙ zeros k (shape .places + i) a (omega (arith, fitted .few))
+            ∙ sym (rw (blank-at i (omega (arith, fitted .few))) (offers-blank k));
+      };
+      stock = fitted .enough;
+      within = omega arith;
+      phase = omega (arith, in-limits o good .m);
+      few = few-at;
+      packing = empty;
+      represents = nothing;
     };
+    represents = nothing;
   }

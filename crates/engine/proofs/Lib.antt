@@ -1,7 +1,4 @@
 -- Why the engine follows the model. For the crates above: Empty, the store at the opening.
-pub mod Fit
-pub mod Forests
-pub mod Shows
 pub mod Aimed
 pub mod Spotted
 pub mod Ways

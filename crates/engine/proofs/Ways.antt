@@ -1,37 +1,39 @@
 -- The ways out of a step, each a law over what the code knows there.
 use mathlib.Core.Path.{_≡_, refl, sym, ap, _∙_}
-use mathlib.Core.Bool.{Bool, true, false, _&&_}
-use mathlib.Core.List.{List}
-use Prim.Native.Nat.{ℕ, _+_, _-_, _<_}
+use mathlib.Core.Logic.{_⊎_, inl, inr, ⊎-elim}
+use mathlib.Core.List.{List, []}
+use Prim.Native.Nat.{ℕ, _+_, _<_}
+use native.Mathlib.Decide.{ℕ-discrete}
 use native.Mathlib.Omega.{arith}
-use lib.Dec.{eqb}
-use borrow.Author.Tests.{eqb-true}
+use lib.ListN.{length, set}
+use lib.Seq.{getD-set-same, getD-set-other}
 use Rattle.packing.specs.declared.{Opening.Opening, Answer.Answer, ItemReason.ItemReason}
 use Rattle.packing.specs.declared.Outcome.the-variants.{Placed, Counted, Refused}
 use Rattle.packing.specs.declared.Command.the-variants.{Shelve, Count}
-use Rattle.packing.specs.Prelude.{if_then_else_, total}
-use Rattle.packing.specs.Bins.{Packing, load, add}
-use Rattle.packing.specs.Placing.{into, refusing, permitted, takes, binFor, decision, placed}
-use Rattle.packing.specs.Run.{item}
+use Rattle.packing.specs.Bins.{Packing}
+use Rattle.packing.specs.Placing.{into, refusing, binFor, decision}
+use Rattle.packing.specs.Run.{item, next}
 use Rattle.packing.proofs.Tests.{clash}
 use Rattle.packing.proofs.Decided.{goes-in, decides}
 use Rattle.packing.proofs.Reached.{opened-placed}
 use Rattle.tournament.specs.declared.Shape.{Shape}
 use Rattle.aim.specs.declared.Counters.{Counters}
-use Rattle.aim.specs.Aims.{aim, home, accepting}
-use Rattle.aim.proofs.Aiming.{home-positive}
+use Rattle.aim.specs.Aims.{home, aFor, accepting}
+use Rattle.aim.proofs.Aiming.{a-few}
+use Rattle.ledger.specs.Rows.{places, rowAt, classIn}
+use Rattle.ledger.specs.Entering.{entering, Entered}
+use Rattle.ledger.proofs.Entering.{IsEntry, row-before, records-placed}
+use Rattle.index.specs.Shown.{Shown}
+use Rattle.index.proofs.Indexing.{indexes-set}
 use Rattle.engine.specs.declared.Spot.{Spot}
-use Rattle.engine.specs.Store.{Store, held, shownAt, Sound, shows, toShow, Represents}
-use Rattle.engine.specs.Shown.{shownIn, Shown}
+use Rattle.engine.specs.Store.{Store, store, Few, Sound, Represents}
 use Rattle.engine.specs.Done.{answering, Counting, Modelled, Done}
-use Rattle.engine.proofs.Fit.{put-shows}
-use Rattle.engine.proofs.Shows.{permitted-after}
-use Rattle.engine.proofs.Aimed.{Aimed, phase-few, phase-after}
-use Rattle.engine.proofs.Spotted.{newBin, passed, chosen, IsSpot, Spotted}
+use Rattle.engine.proofs.Aimed.{Aimed, phase-few, a-more, phase-after}
+use Rattle.engine.proofs.Spotted.{IsSpot, Spotted}
 
 -- Refused: the store stays.
 pub done-refused : {o : Opening} {shape : Shape} {w : Store} {number size : ℕ} {reason : ItemReason} → Sound o shape w
-    → ((p : Packing) → Represents o shape w p → decision o p (item size) ≡ refusing reason)
+    → ((p : Packing) → Represents o w p → decision o p (item size) ≡ refusing reason)
     → Done o shape w number (Shelve size) (answering number (Refused reason)) w
 done-refused sound m = record {
   sound = sound;
@@ -41,63 +43,80 @@ done-refused sound m = record {
   refused = λ _ _. refl;
 }
 
--- Placed in a spot that is the model's, which then is shown.
-module _ {o : Opening} {c : Counters} {size n : ℕ} (a : Aimed o c size n) {s : Spot} {shape : Shape} {t u : List ℕ}
-    (d : Shown shape t (home n) (s .«holds_a») (s .place) (s .free) u) where
-  module _ {p : Packing} (r : Represents o shape (held t c) p) (m : IsSpot o p size n s) where
-    -- At the place of the chosen bin the trees show what the bin shows with the item,
-    shown-here : (k : ℕ) → (if shownIn (home n) (s .«holds_a») k then s .free else toShow o p k (passed o p size)) ≡ shows o k (add (item size) (chosen o p size))
-    unfolding total
-    shown-here k =
-        rw (← permitted-after o (item size) (chosen o p size) (home n) (home-positive n) (m .class-is) (s .«holds_a») (m .holds-is) k)
-        (go (permitted o (aim k) (add (item size) (chosen o p size))) (m .hidden k))
-      where
-        go : (x : Bool) → (x ≡ false → toShow o p k (passed o p size) ≡ 0)
-            → (if x then s .free else toShow o p k (passed o p size)) ≡ (if x then o .capacity - (size + load (chosen o p size)) else 0)
-        go true h = m .free-is
-        go false h = h refl
+-- Placed in a spot that is the model's: the item is entered in the ledger, and then the row is shown.
+module _ {o : Opening} {c : Counters} {size n : ℕ} (a : Aimed o c size n) {s : Spot} {shape : Shape} {t u : List ℕ} {ledger ledger′ : List (List ℕ)} {row : List ℕ}
+    (e : Entered ledger (s .place) (home n) (s .free) (aFor n) row ledger′) (d : Shown shape t (s .place) row u) (inside : s .place < places) where
+  module _ {p : Packing} (r : Represents o (store t ledger c) p) (m : IsSpot o p size n s) where
+    entry : IsEntry o p size (s .place) (home n) (s .free) (aFor n)
+    entry = record { place-is = m .place-is; class-is = sym (m .class-is); free-is = m .free-is; a-is = a-more a }
 
-    -- and at every other what they did.
-    shown-next : (k j : ℕ) → k < 5 → j < shape .places → shownAt u shape k j ≡ toShow o (placed o p (item size)) k j
-    unfolding placed
-    shown-next k j l b =
-        d .shown k j l b ∙ rw (m .place-is, r .shown k j l b) (go (eqb j (passed o p size)) refl)
-        ∙ sym (put-shows (shows o k) (takes o p (item size)) (newBin o p size) (item size) (p .bins) j)
-      where
-        go : (x : Bool) → eqb j (passed o p size) ≡ x → (if x && shownIn (home n) (s .«holds_a») k then s .free else toShow o p k j)
-            ≡ (if x then shows o k (add (item size) (chosen o p size)) else toShow o p k j)
-        go true e = rw (eqb-true j (passed o p size) e) (shown-here k)
-        go false e = refl
-
-    modelled : Modelled o shape (Shelve size) (Placed (s .place + 1)) (held u (accepting n (s .opened) c)) p
+    modelled : Modelled o (Shelve size) (Placed (s .place + 1)) (store u ledger′ (accepting n (s .opened) c)) p
     modelled =
         let goes : decision o p (item size) ≡ into (binFor o p (item size)) =
         decides o p (item size) _ (goes-in (record { some = a .some; within-capacity = a .fits; not-spent = m .in-stock })) in
         record {
           answered = rw goes (ap Placed (omega (arith, m .place-is)));
-          represents = rw goes (record { bins = m .opened-is ∙ sym (opened-placed o p (item size)); b2s = phase-after a r; shown = shown-next });
+          represents =
+              rw goes
+              (record {
+                bins = m .opened-is ∙ sym (opened-placed o p (item size));
+                b2s = phase-after a r;
+                records = records-placed (r .records) inside entry e;
+              });
         }
 
-  pub done-placed : {number : ℕ} → Sound o shape (held t c) → Spotted o shape (held t c) size n s
-      → Done o shape (held t c) number (Shelve size) (answering number (Placed (s .place + 1))) (held u (accepting n (s .opened) c))
+    -- The place had no bin, or one of this class.
+    class-before : (classIn (rowAt ledger (s .place)) ≡ 0) ⊎ (classIn (rowAt ledger (s .place)) ≡ classIn row)
+    class-before =
+        let new : classIn row ≡ home n = ap classIn (e .row-is) in
+        ⊎-elim inl (λ same. inr (same ∙ m .class-is ∙ sym new)) (row-before (r .records) inside entry .class)
+
+  pub done-placed : {number : ℕ} → Sound o shape (store t ledger c) → Spotted o shape (store t ledger c) size n s
+      → Done o shape (store t ledger c) number (Shelve size) (answering number (Placed (s .place + 1))) (store u ledger′ (accepting n (s .opened) c))
   done-placed sound w = record {
-    sound = record { forest = d .forest; stock = sound .stock; within = w .stock; phase = phase-few a };
+    sound = record {
+      index = rw (e .ledger-is) (indexes-set (sound .index) at-hand (class-before then there) d);
+      stock = sound .stock;
+      within = w .stock;
+      phase = phase-few a;
+      few = λ i l. rw (e .ledger-is) (few-after i l);
+      packing = next o (sound .packing) (Shelve size);
+      represents = modelled then there .represents;
+    };
     numbered = refl;
     model = λ p r. modelled r (w .model p r);
     items = refl;
     refused = λ reason e. clash (cc);
   }
+    where
+      then : Represents o (store t ledger c) (sound .packing)
+      then = sound .represents
+
+      there : IsSpot o (sound .packing) size n s
+      there = w .model (sound .packing) then
+
+      at-hand : s .place < length ledger
+      at-hand = omega (arith, then .records .whole)
+
+      few-after : (i : ℕ) → i < places → Few (c .items + 1) (rowAt (set ledger (s .place) row) i)
+      few-after i l = elim (ℕ-discrete i (s .place)) [
+        | yes q ↦ rw (q, getD-set-same ledger (s .place) row [] at-hand, e .row-is) (more (sound .few (s .place) inside))
+        | no q ↦ rw (getD-set-other ledger (s .place) i row [] q) (record { held = omega (arith, sound .few i l .held); held-a = omega (arith, sound .few i l .held-a) })
+      ]
+        where
+          more : Few (c .items) (rowAt ledger (s .place)) → Few (c .items + 1) (entering (home n) (s .free) (aFor n) (rowAt ledger (s .place)))
+          more f = record { held = omega (arith, f .held); held-a = omega (arith, f .held-a, a-few n) }
 
 -- A count: the store stays.
 pub counting : {c : Counters} {number : ℕ} → Counting c number (answering number (Counted (c .opened)))
-counting = record { counted = refl; model = λ o shape trees p r. rw (r .bins) }
+counting = record { counted = refl; model = λ o trees ledger p r. rw (r .bins) }
 
 pub done-count : {o : Opening} {shape : Shape} {w : Store} {number : ℕ} {r : Answer} → Sound o shape w → Counting (w .counters) number r
     → Done o shape w number Count r w
 done-count {o} {shape} {w} sound m = record {
   sound = sound;
   numbered = ap (λ (x : Answer). x .number) (m .counted);
-  model = λ p q. record { answered = ap (λ (x : Answer). x .outcome) (m .model o shape (w .trees) p q); represents = q };
+  model = λ p q. record { answered = ap (λ (x : Answer). x .outcome) (m .model o (w .trees) (w .ledger) p q); represents = q };
   items = rw (m .counted) (omega arith);
   refused = λ reason e. refl;
 }

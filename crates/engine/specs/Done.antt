@@ -11,7 +11,7 @@ use Rattle.packing.specs.Run.{answerTo, next, placement}
 use Rattle.tournament.specs.declared.Shape.{Shape}
 use Rattle.aim.specs.declared.Counters.{Counters}
 use Rattle.engine.specs.declared.Answered.{Answered}
-use Rattle.engine.specs.Store.{Store, held, Sound, Represents}
+use Rattle.engine.specs.Store.{Store, store, Sound, Represents}
 
 -- "An answer joins the command's number with placed, counted or refused."
 abbrev pub answering : ℕ → Outcome → Answer
@@ -24,18 +24,18 @@ giving number a c = record { answer = answering number a; next = c }
 -- The count of bins opened is the model's, at every packing of every store with these counters.
 pub record Counting (c : Counters) (number : ℕ) (r : Answer) : Type 0 where
   pub counted : r ≡ answering number (Counted (c .opened))
-  pub model : (o : Opening) (shape : Shape) (trees : List ℕ) (p : Packing) → Represents o shape (held trees c) p
+  pub model : (o : Opening) (trees : List ℕ) (ledger : List (List ℕ)) (p : Packing) → Represents o (store trees ledger c) p
       → r ≡ answering number (answerTo o p Count)
 
-pub record Modelled (o : Opening) (shape : Shape) (command : Command) (a : Outcome) (u : Store) (p : Packing) : Type 0 where
+pub record Modelled (o : Opening) (command : Command) (a : Outcome) (u : Store) (p : Packing) : Type 0 where
   pub answered : a ≡ answerTo o p command
-  pub represents : Represents o shape u (next o p command)
+  pub represents : Represents o u (next o p command)
 
 -- From the store s, the command of this number is answered so and leaves the store u.
 pub record Done (o : Opening) (shape : Shape) (s : Store) (number : ℕ) (command : Command) (r : Answer) (u : Store) : Type 0 where
   pub sound : Sound o shape u
   pub numbered : r .number ≡ number
-  pub model : (p : Packing) → Represents o shape s p → Modelled o shape command (r .outcome) u p
+  pub model : (p : Packing) → Represents o s p → Modelled o command (r .outcome) u p
   -- One more item for each that is placed.
   pub items : u .counters .items ≡ s .counters .items + length (placement command (r .outcome))
   -- A refused item leaves every word as it was.

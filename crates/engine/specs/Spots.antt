@@ -3,22 +3,22 @@ use mathlib.Core.List.{List}
 use Prim.Native.Nat.{ℕ, _+_, _-_}
 use lib.Dec.{leb}
 use Rattle.packing.specs.declared.Opening.{Opening}
-use Rattle.packing.specs.Prelude.{_=?_, if_then_else_}
+use Rattle.packing.specs.Prelude.{if_then_else_}
 use Rattle.tournament.specs.declared.{Shape.Shape, Found.Found}
 use Rattle.tournament.specs.declared.Found.the-variants.{At, Nothing}
 use Rattle.tournament.specs.LowestFit.{lowestFit}
 use Rattle.engine.specs.declared.{Spot.Spot, Offer.Offer}
 use Rattle.engine.specs.declared.Offer.the-variants.{Here, Spent}
-use Rattle.engine.specs.Store.{shownBy, shownAt}
+use Rattle.index.specs.Trees.{shownBy, shownAt}
 
 module _ (o : Opening) (shape : Shape) (trees : List ℕ) (opened tree size : ℕ) where
-  -- in the bin at place i, which then holds an A if it was found in tree 0 or in tree 1
+  -- in the bin at place i
   abbrev pub joined : (i : ℕ) → Spot
-  joined i = record { place = i; free = shownAt trees shape tree i - size; «holds_a» = leb tree 1; opened = opened }
+  joined i = record { place = i; free = shownAt trees shape tree i - size; opened = opened }
 
-  -- in a new bin, which then holds an A if the item is one
+  -- in a new bin
   abbrev pub anew : Spot
-  anew = record { place = opened; free = o .capacity - size; «holds_a» = tree =? 1; opened = opened + 1 }
+  anew = record { place = opened; free = o .capacity - size; opened = opened + 1 }
 
   abbrev pub spotAt : Found → Offer
   spotAt (At i) = Here (joined i)

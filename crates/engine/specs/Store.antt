@@ -1,71 +1,54 @@
--- The engine's store: what it is by itself, and the packing that it represents.
+-- The engine's store: trees, ledger and counters. The ledger, with the counters, records a packing; the trees are an index over the ledger.
 use mathlib.Core.Path.{_≡_}
-use mathlib.Core.List.{List, map}
-use Prim.Native.Nat.{ℕ, _-_, _*_, _%_, _≤_, _<_}
-use lib.ListN.{getD}
+use mathlib.Core.List.{List}
+use Prim.Native.Nat.{ℕ, _%_, _≤_, _<_}
 use Rattle.packing.specs.declared.Opening.{Opening}
-use Rattle.packing.specs.Prelude.{if_then_else_}
-use Rattle.packing.specs.Bins.{Bin, Packing, empty, opened, load}
-use Rattle.packing.specs.Placing.{permitted}
+use Rattle.packing.specs.Bins.{Packing, empty, opened}
 use Rattle.tournament.specs.declared.Shape.{Shape}
-use Rattle.tournament.specs.Trees.{stride, leaves, Tree}
 use Rattle.aim.specs.declared.Counters.{Counters}
-use Rattle.aim.specs.Aims.{aim}
+use Rattle.ledger.specs.Rows.{places, rowAt, heldIn, heldAIn}
+use Rattle.ledger.specs.Records.{Records}
+use Rattle.index.specs.Trees.{Indexes}
 
 -- What the engine holds between two commands.
 pub record Store : Type 0 where
   pub trees : List ℕ
+  pub ledger : List (List ℕ)
   pub counters : Counters
 
-abbrev pub held : List ℕ → Counters → Store
-held trees c = record { trees = trees; counters = c }
+abbrev pub store : List ℕ → List (List ℕ) → Counters → Store
+store trees ledger c = record { trees = trees; ledger = ledger; counters = c }
 
--- The word of the row that tree n stands at.
-abbrev pub base : (n : ℕ) → ℕ
-base n = stride * n
+-- The packing that the store represents: the counters and the ledger say it. Bin i + 1 stands at place i.
+pub record Represents (o : Opening) (s : Store) (p : Packing) : Type 0 where
+  pub bins : s .counters .opened ≡ opened p
+  pub b2s : s .counters .phase ≡ p .b2s % o .m
+  pub records : Records o (s .ledger) p
 
--- What tree n holds, place by place, and at place i.
-abbrev pub shownBy : (trees : List ℕ) → Shape → (n : ℕ) → List ℕ
-shownBy trees shape n = leaves trees (base n) (shape .places)
+-- No row says more items, or more A's, than there are.
+pub record Few (items : ℕ) (row : List ℕ) : Type 0 where
+  pub held : heldIn row ≤ items
+  pub held-a : heldAIn row ≤ items
 
-abbrev pub shownAt : (trees : List ℕ) → Shape → (n i : ℕ) → ℕ
-shownAt trees shape n i = getD (shownBy trees shape n) i 0
-
--- Five trees of one shape in one row.
-pub record Forest (shape : Shape) (trees : List ℕ) : Type 0 where
-  pub few : shape .places ≤ 512
-  pub tree : (n : ℕ) → n < 5 → Tree (base n) shape trees
-
--- What the store is by itself, whatever it represents.
+-- What the store is, whatever packing it represents; and it represents one.
 pub record Sound (o : Opening) (shape : Shape) (s : Store) : Type 0 where
-  pub forest : Forest shape (s .trees)
+  pub index : Indexes shape (s .trees) (s .ledger)
   pub stock : o .stock ≤ shape .places
   pub within : s .counters .opened ≤ o .stock
   pub phase : s .counters .phase < o .m
+  pub few : (i : ℕ) → i < places → Few (s .counters .items) (rowAt (s .ledger) i)
+  pub packing : Packing
+  pub represents : Represents o s packing
 
 -- A command may come: the count of items can take one more. The commands of a stream are far fewer.
 pub record Ready (o : Opening) (shape : Shape) (s : Store) : Type 0 where
   pub sound : Sound o shape s
   pub room : s .counters .items < 65535
 
--- What a bin shows in tree n: its free space, where an item that is searched for there may join it, else 0.
-abbrev pub shows : Opening → (n : ℕ) → Bin → ℕ
-shows o n b = if permitted o (aim n) b then o .capacity - load b else 0
-
--- What bin i + 1 of a packing shows in tree n; 0 where no bin has this number.
-abbrev pub toShow : Opening → Packing → (n i : ℕ) → ℕ
-toShow o p n i = getD (map (shows o n) (p .bins)) i 0
-
-pub record Represents (o : Opening) (shape : Shape) (s : Store) (p : Packing) : Type 0 where
-  pub bins : s .counters .opened ≡ opened p
-  pub b2s : s .counters .phase ≡ p .b2s % o .m
-  -- Bin i + 1 stands at place i; unopened bins, and places past the stock, show 0.
-  pub shown : (n i : ℕ) → n < 5 → i < shape .places → shownAt (s .trees) shape n i ≡ toShow o p n i
-
--- The counters before the first command, and the trees that with them stand for the empty packing.
+-- The counters before the first command, and the trees and the ledger that with them stand for the empty packing.
 abbrev pub atOpening : Counters
 atOpening = record { opened = 0; phase = 0; items = 0 }
 
-pub record EmptyStore (o : Opening) (shape : Shape) (trees : List ℕ) : Type 0 where
-  pub sound : Sound o shape (held trees atOpening)
-  pub represents : Represents o shape (held trees atOpening) empty
+pub record EmptyStore (o : Opening) (shape : Shape) (trees : List ℕ) (ledger : List (List ℕ)) : Type 0 where
+  pub sound : Sound o shape (store trees ledger atOpening)
+  pub represents : Represents o (store trees ledger atOpening) empty

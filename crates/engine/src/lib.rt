@@ -1,6 +1,8 @@
-// The engine: five tournament trees in one row of words, and the step that answers a command. Tree n, for n from 1 to 4, shows the free space of
-// the bins of class n; tree 0 that of the bins of class 1 that hold an A. The row is lent by the caller; what is small goes by value.
+// The engine: the step that answers a command. It finds a bin by the trees, enters the item in the ledger, and shows the bin's row of the ledger in
+// the trees, which are an index over it. Trees and ledger are lent by the caller; what is small goes by value.
 use aim::Counters;
+use ledger::BINS;
+use ledger::COLUMNS;
 use packing::Answer;
 use packing::Command;
 use packing::ItemReason;
@@ -14,9 +16,9 @@ ghost use mathlib.Core.Path.{_≡_};
 ghost use Prim.Native.Nat.{_≤_, _<_};
 ghost use Rattle.packing.specs.declared.Command.the-variants.{Shelve};
 ghost use Rattle.packing.specs.declared.Outcome.the-variants.{Refused};
-ghost use Rattle.engine.specs.Store.{Forest, held, Ready};
+ghost use Rattle.index.specs.Trees.{Forest};
+ghost use Rattle.engine.specs.Store.{store, Ready};
 ghost use Rattle.engine.specs.Spots.{spotFor};
-ghost use Rattle.engine.specs.Shown.{Shown};
 ghost use Rattle.engine.specs.Done.{giving, Counting, Done};
 
 // What a command comes to, and the counters after it.
@@ -25,12 +27,10 @@ pub struct Answered {
     pub next: Counters,
 }
 
-// Where an item goes: the place of its bin, the space left free there, whether the bin then is of class 1 and holds an A, and the bins opened
-// then.
+// Where an item goes: the place of its bin, the space left free there, and the bins opened then.
 struct Spot {
     place: usize,
     free: u32,
-    holds_a: bool,
     opened: u16,
 }
 
@@ -40,30 +40,7 @@ enum Offer {
     Spent,
 }
 
-// Shows the free space of a bin in the tree of its class, and in tree 0 if it holds an A.
-fn show(
-    trees: &mut [u32; ROW_WORDS],
-    shape: Shape,
-    class: usize,
-    holds_a: bool,
-    place: usize,
-    free: u32,
-)
-    requires forest { ⌜ Forest shape (now trees) ⌝ }
-    requires class { ⌜ class < 5 ⌝ }
-    requires inside { ⌜ place < shape .places ⌝ }
-    ensures { λ _. ⌜ Shown shape (now (trees .entry)) class «holds_a» place free (now (trees .exit)) ⌝ }
-{
-    let base = STRIDE * class;
-    climb::store(trees, base, shape, place, free);
-    if holds_a {
-        climb::store(trees, 0, shape, place, free);
-    }
-}
-
-// Where an item goes that is searched for in this tree: the lowest place with space for it, else a new bin. Tree 1 is searched for an A only,
-// and tree 0 shows only bins that hold one: so a bin found in either holds an A once the item has joined it. A new bin holds an A only if the
-// item is one, searched for in tree 1.
+// Where an item goes that is searched for in this tree: the lowest place with space for it, else a new bin.
 fn find_spot(
     trees: &[u32; ROW_WORDS],
     shape: Shape,
@@ -85,11 +62,9 @@ fn find_spot(
         Found::At(place) => {
             let space = tournament::value(trees, base, shape, place);
             let free = space - size;
-            let holds_a = tree <= 1;
             Offer::Here(Spot {
                 place,
                 free,
-                holds_a,
                 opened,
             })
         }
@@ -99,12 +74,10 @@ fn find_spot(
             }
             let place = opened as usize;
             let free = capacity - size;
-            let holds_a = tree == 1;
             let opened = opened + 1;
             Offer::Here(Spot {
                 place,
                 free,
-                holds_a,
                 opened,
             })
         }
@@ -126,23 +99,25 @@ fn refuse(number: usize, reason: ItemReason, counters: Counters) -> Answered
 // An item that a bin can hold: to the first permitted bin with space, else to a new one, else refused.
 fn place_fitting(
     trees: &mut [u32; ROW_WORDS],
+    ledger: &mut [[u32; COLUMNS]; BINS],
     shape: Shape,
     counters: Counters,
     opening: Opening,
     number: usize,
     size: u32,
 ) -> Answered
-    requires ready { ⌜ Ready opening shape (held (now trees) counters) ⌝ }
+    requires ready { ⌜ Ready opening shape (store (now trees) (now ledger) counters) ⌝ }
     requires some { ⌜ 1 ≤ size ⌝ }
     requires fits { ⌜ size ≤ opening .capacity ⌝ }
-    ensures { λ r. ⌜ Done opening shape (held (now (trees .entry)) counters) number (Shelve size) (r .answer) (held (now (trees .exit)) (r .next)) ⌝ }
+    ensures { λ r. ⌜ Done opening shape (store (now (trees .entry)) (now (ledger .entry)) counters) number (Shelve size) (r .answer) (store (now (trees .exit)) (now (ledger .exit)) (r .next)) ⌝ }
 {
     let tree = aim::tree_for(size, opening.capacity, counters.phase, opening.m);
     let offer = find_spot(trees, shape, counters.opened, opening, tree, size);
     let Offer::Here(spot) = offer else {
         return refuse(number, ItemReason::StockSpent, counters);
     };
-    let home = aim::home_of(tree);
+    let class = aim::home_of(tree) as u32;
+    let a = aim::a_for(tree);
     let place = spot.place;
     let next = aim::accept(counters, tree, spot.opened);
     let bin = (place + 1) as u16;
@@ -150,8 +125,9 @@ fn place_fitting(
         number,
         outcome: Outcome::Placed(bin),
     };
+    let row = ledger::enter(ledger, place, class, spot.free, a);
     // Last: how far a store climbs is not foreseen by the processor, and nothing but the next command is to wait for it.
-    show(trees, shape, home, spot.holds_a, place, spot.free);
+    index::show(trees, shape, place, row);
     Answered { answer, next }
 }
 
@@ -159,17 +135,18 @@ fn place_fitting(
 // asked only where the test fails.
 pub fn place(
     trees: &mut [u32; ROW_WORDS],
+    ledger: &mut [[u32; COLUMNS]; BINS],
     shape: Shape,
     counters: Counters,
     opening: Opening,
     number: usize,
     size: u32,
 ) -> Answered
-    requires { ⌜ Ready opening shape (held (now trees) counters) ⌝ }
-    ensures { λ r. ⌜ Done opening shape (held (now (trees .entry)) counters) number (Shelve size) (r .answer) (held (now (trees .exit)) (r .next)) ⌝ }
+    requires { ⌜ Ready opening shape (store (now trees) (now ledger) counters) ⌝ }
+    ensures { λ r. ⌜ Done opening shape (store (now (trees .entry)) (now (ledger .entry)) counters) number (Shelve size) (r .answer) (store (now (trees .exit)) (now (ledger .exit)) (r .next)) ⌝ }
 {
     if limits::is_within(1, opening.capacity, size) {
-        return place_fitting(trees, shape, counters, opening, number, size);
+        return place_fitting(trees, ledger, shape, counters, opening, number, size);
     }
     if size == 0 {
         return refuse(number, ItemReason::SizeZero, counters);
@@ -191,17 +168,18 @@ pub fn count(counters: Counters, number: usize) -> Answer
 // Answers a command after the opening.
 pub fn answer(
     trees: &mut [u32; ROW_WORDS],
+    ledger: &mut [[u32; COLUMNS]; BINS],
     shape: Shape,
     counters: Counters,
     opening: Opening,
     number: usize,
     command: Command,
 ) -> Answered
-    requires { ⌜ Ready opening shape (held (now trees) counters) ⌝ }
-    ensures { λ r. ⌜ Done opening shape (held (now (trees .entry)) counters) number command (r .answer) (held (now (trees .exit)) (r .next)) ⌝ }
+    requires { ⌜ Ready opening shape (store (now trees) (now ledger) counters) ⌝ }
+    ensures { λ r. ⌜ Done opening shape (store (now (trees .entry)) (now (ledger .entry)) counters) number command (r .answer) (store (now (trees .exit)) (now (ledger .exit)) (r .next)) ⌝ }
 {
     match command {
-        Command::Shelve(size) => place(trees, shape, counters, opening, number, size),
+        Command::Shelve(size) => place(trees, ledger, shape, counters, opening, number, size),
         Command::Count => {
             let answer = count(counters, number);
             Answered {

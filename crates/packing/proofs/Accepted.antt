@@ -67,6 +67,7 @@ module _ (words : ℕ) (o : Opening) (cs : List Command) where
             opening-good = subst (λ o. openingGood o ≡ true) (all .same-opening) q;
             opening-first = ap (λ n. n ∷ []) (eqb-true b 1 f);
             opening-whole = omega (arith, ltb-false (length s) openingWidth p);
+            opening-is = all .same-opening;
             commands-whole = subst (λ x. commands x mostCommands openingLength (drop openingWidth s) ≡ accepted o cs) (all .same-opening) h;
             commands-few = all .few;
             words-enough = l;

@@ -52,6 +52,17 @@ module _ (o : Opening) where
       go false = refl
   opens-its-class n X = refl
 
+  -- The class of the bin that is opened is one of the four.
+  opens-class : (n : ℕ) (k : SizeClass) → (1 ≤ classOf (targetOf o n k)) × (classOf (targetOf o n k) ≤ 4)
+  opens-class n A = omega arith
+  opens-class n B1 = omega arith
+  opens-class n B2 = go (eqb (suc n % o .m) 0)
+    where
+      go : (t : Bool) → (1 ≤ classOf (if t then besideA else toClass 3)) × (classOf (if t then besideA else toClass 3) ≤ 4)
+      go true = omega arith
+      go false = omega arith
+  opens-class n X = omega arith
+
   module _ (p : Packing) (i : Item) where
     sound-joined : (b : Bin) → takes o p i b ≡ true → SoundBin o b → SoundBin o (add i b)
     unfolding total
@@ -60,6 +71,8 @@ module _ (o : Opening) where
         record {
           not-overfull = omega (arith, leb-true (load b + i .size) (o .capacity) (both .1));
           filled = omega arith;
+          from-class-1 = h .from-class-1;
+          to-class-4 = h .to-class-4;
           in-class = each-cons (λ j. mayLieIn (kind o j) (b .class) ≡ true) (joins-its-class (p .b2s) (kind o i) b (both .0)) (h .in-class);
         }
 
@@ -69,6 +82,8 @@ module _ (o : Opening) where
         record {
           not-overfull = omega arith;
           filled = omega arith;
+          from-class-1 = opens-class (p .b2s) (kind o i) .0;
+          to-class-4 = opens-class (p .b2s) (kind o i) .1;
           in-class =
               each-cons (λ j. mayLieIn (kind o j) (classOf (target o p i)) ≡ true) (opens-its-class (p .b2s) (kind o i))
               (λ j m. absurd (List·Memᴰ·not-nil m));

@@ -6,7 +6,7 @@ use Rattle.packing.specs.Refusals.{word, outcomeOf, figures, streamGives
 use Rattle.packing.specs.Bins.{Item, Bin, Packing, opened, load, itemsOf, kind}
 use Rattle.packing.specs.Placing.{permitted, target}
 use Rattle.packing.specs.Limits.{openingGood, mostCommands}
-use Rattle.packing.specs.Streams.{openingLength, behindOpening, accepted, commands, verdict}
+use Rattle.packing.specs.Streams.{openingLength, openingOf, behindOpening, accepted, commands, verdict}
 use Rattle.packing.specs.Run.{item, answerTo, next, packing, outcomes, answers, placements, result}
 use Rattle.packing.specs.Compared.{acceptedSizes, numberOpened, sizesIn}
 use Rattle.packing.specs.LeftOut.{kept, outcomesKept}
@@ -29,6 +29,8 @@ mayLieIn X n = n =? 4
 pub record SoundBin (o : Opening) (b : Bin) : Type 0 where
   pub not-overfull : load b ≤ o .capacity
   pub filled : 1 ≤ length (b .items)
+  pub from-class-1 : 1 ≤ b .class
+  pub to-class-4 : b .class ≤ 4
   pub in-class : (i : Item) → List·Memᴰ i (b .items) → mayLieIn (kind o i) (b .class) ≡ true
 
 module _ (o : Opening) (cs : List Command) where
@@ -39,7 +41,7 @@ module _ (o : Opening) (cs : List Command) where
   pub record NeverOverfull : Type 0 where
     -- After each command the items answered n are together no larger than the capacity, whatever the number n.
     pub shown : (j n : ℕ) → total (sizesIn n (placements o (take j cs))) ≤ o .capacity
-    -- Nor does the load of a bin exceed it; every bin has its class and at least one item.
+    -- Nor does the load of a bin exceed it; every bin has its class, 1 to 4, and at least one item.
     pub bins : (j : ℕ) (b : Bin) → List·Memᴰ b (packing o (take j cs) .bins) → SoundBin o b
 
   -- The loads always add up to the sizes of the accepted items.
@@ -81,12 +83,13 @@ PlanGivesBack = (r s : PlanResult) → planGives r ≡ planGives s → r ≡ s
 abbrev pub WordsGiveBack : Opening → List Command → Type 0
 WordsGiveBack o cs = openingGood o ≡ true → zipWith outcomeOf cs (map word (outcomes o cs)) ≡ outcomes o cs
 
--- What no stream refusal leaves of a stream for which so many words are lent: an opening within its limits, a whole command at every place after
--- it, and no more commands than 4,096 and than there are words.
+-- What no stream refusal leaves of a stream for which so many words are lent: the opening at its front, within its limits, a whole command at every
+-- place after it, and no more commands than 4,096 and than there are words.
 pub record WholeStream (stream : List ℕ) (words : ℕ) (o : Opening) (cs : List Command) : Type 0 where
   pub opening-good : openingGood o ≡ true
   pub opening-first : take 1 stream ≡ 0x01 ∷ []
   pub opening-whole : openingLength ≤ length stream
+  pub opening-is : openingOf (drop 1 stream) ≡ o
   pub commands-whole : commands o mostCommands openingLength (behindOpening stream) ≡ accepted o cs
   pub commands-few : length cs ≤ mostCommands
   pub words-enough : length cs ≤ words

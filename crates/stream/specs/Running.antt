@@ -6,9 +6,8 @@ use lib.ListN.{length}
 use Rattle.packing.specs.declared.{Opening.Opening, Command.Command}
 use Rattle.packing.specs.Streams.{accepted, verdict}
 use Rattle.packing.specs.Run.{packing, placements, rowAtExit}
-use Rattle.tournament.specs.declared.Shape.{Shape}
 use Rattle.aim.specs.declared.Counters.{Counters}
-use Rattle.engine.specs.Store.{held, Represents}
+use Rattle.engine.specs.Store.{store, Represents}
 
 -- No stream refusal stops the stream with so many words lent, and it has this opening.
 pub record Runnable (stream : List ℕ) (words : ℕ) (o : Opening) : Type 0 where
@@ -16,9 +15,9 @@ pub record Runnable (stream : List ℕ) (words : ℕ) (o : Opening) : Type 0 whe
   pub accepts : verdict stream words ≡ accepted o commands
 
 -- The row and the number of items are the model's, and the store stands for the packing after all commands.
-pub record Ran (stream row : List ℕ) (o : Opening) (shape : Shape) (words trees : List ℕ) (c : Counters) : Type 0 where
+pub record Ran (stream row : List ℕ) (o : Opening) (words trees : List ℕ) (ledger : List (List ℕ)) (c : Counters) : Type 0 where
   pub commands : List Command
   pub accepts : verdict stream (length row) ≡ accepted o commands
   pub answers : words ≡ rowAtExit (accepted o commands) row
   pub items : c .items ≡ length (placements o commands)
-  pub represents : Represents o shape (held trees c) (packing o commands)
+  pub represents : Represents o (store trees ledger c) (packing o commands)

@@ -1,20 +1,30 @@
 // Command streams: the reader finds the verdict of the whole stream, then the run answers its commands.
 pub mod run;
 
+use ledger::BINS;
+use ledger::COLUMNS;
 use packing::StreamReason;
 use packing::StreamResult;
 use reader::Summary;
 use tournament::ROW_WORDS;
 ghost use mathlib.Core.Path.{_≡_};
-ghost use lib.ListN.{length};
+ghost use lib.ListN.{length, replicate};
 ghost use Rattle.packing.specs.Streams.{verdict};
 ghost use Rattle.packing.specs.Run.{result, rowAtExit};
+ghost use Rattle.ledger.specs.Rows.{places, blank};
+ghost use Rattle.stream.specs.Recorded.{Recorded};
 
-// Reads a stream whole, and then answers its commands into the row of words that the caller lends. A refused stream writes nothing. The
-// engine's store lives here: it outlasts the run.
-pub fn shelve(stream: &[u8], answers: &mut [u16]) -> StreamResult
+// Reads a stream whole, and then answers its commands into the row of words that the caller lends, and records their packing in a ledger that the
+// caller lends blank. A refused stream writes nothing.
+pub fn record(
+    stream: &[u8],
+    answers: &mut [u16],
+    ledger: &mut [[u32; COLUMNS]; BINS],
+) -> StreamResult
+    requires { ⌜ now ledger ≡ replicate places blank ⌝ }
     ensures result { λ r. ⌜ r ≡ result (verdict (now (stream .entry)) (length (now (answers .entry)))) ⌝ }
     ensures row { λ _. ⌜ now (answers .exit) ≡ rowAtExit (verdict (now (stream .entry)) (length (now (answers .entry)))) (now (answers .entry)) ⌝ }
+    ensures recorded { λ _. ⌜ Recorded (verdict (now (stream .entry)) (length (now (answers .entry)))) (now (ledger .exit)) ⌝ }
 {
     match reader::validate(stream) {
         Summary::Refused(reason, offset) => StreamResult::Refused { reason, offset },
@@ -28,10 +38,19 @@ pub fn shelve(stream: &[u8], answers: &mut [u16]) -> StreamResult
             }
             let shape = tournament::shape_of(opening.stock);
             let mut trees = [0u32; ROW_WORDS];
-            let totals = run::answer_all(stream, opening, shape, &mut trees, answers);
+            let totals = run::answer_all(stream, opening, shape, &mut trees, ledger, answers);
             let items = totals.items as usize;
             let opened = totals.opened as usize;
             StreamResult::Accepted { items, opened }
         }
     }
+}
+
+// The same where nobody asks for the packing: the ledger lives here.
+pub fn shelve(stream: &[u8], answers: &mut [u16]) -> StreamResult
+    ensures result { λ r. ⌜ r ≡ result (verdict (now (stream .entry)) (length (now (answers .entry)))) ⌝ }
+    ensures row { λ _. ⌜ now (answers .exit) ≡ rowAtExit (verdict (now (stream .entry)) (length (now (answers .entry)))) (now (answers .entry)) ⌝ }
+{
+    let mut ledger = [[0u32; COLUMNS]; BINS];
+    record(stream, answers, &mut ledger)
 }

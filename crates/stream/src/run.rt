@@ -1,6 +1,8 @@
 // The second pass: the commands of an accepted stream, answered one after another. What follows a command is handed on as a part of the
-// stream; the engine's store is the caller's, and stands for the packing after all commands when the pass is over.
+// stream; trees and ledger are the caller's, and stand for the packing after all commands when the pass is over.
 use aim::Counters;
+use ledger::BINS;
+use ledger::COLUMNS;
 use packing::Opening;
 use tournament::ROW_WORDS;
 use tournament::Shape;
@@ -14,11 +16,12 @@ pub fn answer_all(
     opening: Opening,
     shape: Shape,
     trees: &mut [u32; ROW_WORDS],
+    ledger: &mut [[u32; COLUMNS]; BINS],
     answers: &mut [u16],
 ) -> Counters
     requires runnable { ⌜ Runnable (now stream) (length (now answers)) opening ⌝ }
-    requires empty { ⌜ EmptyStore opening shape (now trees) ⌝ }
-    ensures { λ r. ⌜ Ran (now (stream .entry)) (now (answers .entry)) opening shape (now (answers .exit)) (now (trees .exit)) r ⌝ }
+    requires empty { ⌜ EmptyStore opening shape (now trees) (now ledger) ⌝ }
+    ensures { λ r. ⌜ Ran (now (stream .entry)) (now (answers .entry)) opening (now (answers .exit)) (now (trees .exit)) (now (ledger .exit)) r ⌝ }
 {
     let mut counters = Counters {
         opened: 0,
@@ -32,7 +35,7 @@ pub fn answer_all(
         let command = front.command;
         let used = front.width + 1;
         let number = done + 1;
-        let step = engine::answer(trees, shape, counters, opening, number, command);
+        let step = engine::answer(trees, ledger, shape, counters, opening, number, command);
         let answer = step.answer;
         let outcome = answer.outcome;
         let place = answer.number - 1;

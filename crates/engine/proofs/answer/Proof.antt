@@ -18,7 +18,7 @@ count-requires c κs = search needs
 
 returns : tie.Need-returns
 returns c =
-    let shelve = c .before .before .before in
+    let shelve = c .before .before .before .before in
     rw (shelve .command .given .1) (c .place .ensures)
 
 returns-2 : tie.Need-returns-2

@@ -8,8 +8,8 @@ use borrow.Author.Needs.{needs}
 use Rattle.tournament.specs.declared.Found.the-variants.{At, Nothing}
 use Rattle.tournament.specs.LowestFit.{lowestFit}
 use Rattle.tournament.proofs.Fits.{Lowest, Meaning, meaning}
-use Rattle.engine.specs.Store.{shownBy}
-use Rattle.engine.proofs.Forests.{leaf-count}
+use Rattle.index.specs.Trees.{shownBy}
+use Rattle.index.proofs.Forests.{leaf-count}
 use Rattle.engine.proofs.find_spot.Statement.{statement}
 use Rattle.engine.proofs.find_spot.Tie as tie
 

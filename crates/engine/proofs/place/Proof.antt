@@ -24,8 +24,9 @@ is-within-requires c κs = search needs
 
 place-fitting-requires : tie.Need-place-fitting-requires
 place-fitting-requires c κs =
-    let tested = c .before .before in
-    (tested .before .pre, within-limits 1 _ _ (sym (tested .is-within .ensures) ∙ c .before .if1 .taken))
+    let within = c .before .before in
+    let tested = within .before in
+    (tested .before .pre, within-limits 1 _ _ (sym (tested .is-within .ensures) ∙ within .if1 .taken))
 
 returns : tie.Need-returns
 returns c = search needs

@@ -1,11 +1,13 @@
 -- `place_fitting` meets its contract: what is known of the item before the search, what the search has for it, and then each way out.
-use mathlib.Core.Path.{_≡_, sym, subst, _∙_}
+use mathlib.Core.Path.{_≡_, sym, ap, subst, _∙_}
 use Prim.Native.Nat.{_<_}
 use native.Mathlib.Omega.{arith}
 use borrow.Author.Needs.{needs}
+use Rattle.aim.proofs.Aiming.{a-few, home-positive}
+use Rattle.ledger.specs.Rows.{classIn}
 use Rattle.engine.specs.declared.{Spot.Spot, Offer.Offer}
 use Rattle.engine.specs.declared.Offer.the-variants.{Here, Spent}
-use Rattle.engine.specs.Store.{held, Sound}
+use Rattle.engine.specs.Store.{store, Sound}
 use Rattle.engine.specs.Spots.{spotFor}
 use Rattle.engine.proofs.Aimed.{Aimed, tree-few, home-few}
 use Rattle.engine.proofs.Spotted.{Says, says}
@@ -18,7 +20,7 @@ module _ (e : tie.After-tree-for) where
   abbrev start : tie.Start
   start = e .before
 
-  sound : Sound (start .args .opening) (start .args .shape) (held (start .args .trees .now) (start .args .counters))
+  sound : Sound (start .args .opening) (start .args .shape) (store (start .args .trees .now) (start .args .ledger .now) (start .args .counters))
   sound = start .pre .0 .sound
 
   aimed : Aimed (start .args .opening) (start .args .counters) (start .args .size) (e .tree-for .result)
@@ -26,7 +28,7 @@ module _ (e : tie.After-tree-for) where
 
   -- What the search says of the item, by what it has for it.
   abbrev Said : Offer → Type 0
-  Said = Says (start .args .opening) (start .args .shape) (held (start .args .trees .now) (start .args .counters)) (start .args .size) (e .tree-for .result)
+  Said = Says (start .args .opening) (start .args .shape) (store (start .args .trees .now) (start .args .ledger .now) (start .args .counters)) (start .args .size) (e .tree-for .result)
 
   said : {offer : Offer}
       → spotFor (start .args .opening) (start .args .shape) (start .args .trees .now) (start .args .counters .opened) (e .tree-for .result) (start .args .size) ≡ offer
@@ -53,7 +55,14 @@ module _ (c : tie.After-known-told) where
   spotted = said searched (sym (c .before .before .before .find-spot .ensures) ∙ c .before .offer .given .1)
 
   few : spot .place < 512
-  few = omega (arith, spotted .inside, sound searched .forest .few)
+  few = omega (arith, spotted .inside, sound searched .index .forest .few)
+
+-- Its class.
+class-few : (c : tie.After-home-of) → c .home-of .result < 5
+class-few c = rw (c .home-of .ensures) (home-few (aimed (searched (c .before))))
+
+class-entered : (c : tie.After-enter) → classIn (c .enter .result) ≡ c .before .before .before .before .home-of .result
+class-entered c = ap classIn (c .enter .ensures .row-is)
 
 tree-for-requires : tie.Need-tree-for-requires
 tree-for-requires c κs = search needs
@@ -61,7 +70,7 @@ tree-for-requires c κs = search needs
 find-spot-requires : tie.Need-find-spot-requires
 find-spot-requires c κs =
     let e = c .before in
-    (sound e .forest, (tree-few (aimed e), (aimed e .some, aimed e .fits)))
+    (sound e .index .forest, (tree-few (aimed e), (aimed e .some, aimed e .fits)))
 
 enum-known-offer : tie.Need-enum-known-offer
 enum-known-offer c = search needs
@@ -78,33 +87,60 @@ returns c = rw (c .refuse .ensures) (done-refused (sound (missed (c .before))) (
 home-of-requires : tie.Need-home-of-requires
 home-of-requires c κs = search needs
 
+cast-class : tie.Need-cast-class
+cast-class c = omega (arith, class-few c)
+
+a-for-requires : tie.Need-a-for-requires
+a-for-requires c κs = search needs
+
 accept-requires : tie.Need-accept-requires
 accept-requires c κs =
-    let ready = start (searched (c .before)) .pre .0 in
+    let ready = start (searched (c .before .before)) .pre .0 in
     (omega (arith, ready .sound .phase), ready .room)
 
 add-bin : tie.Need-add-bin
-add-bin c = omega (arith, few (c .before .before))
+add-bin c = omega (arith, few (c .before .before .before))
 
 cast-bin : tie.Need-cast-bin
-cast-bin c = omega (arith, few (c .before .before))
+cast-bin c = omega (arith, few (c .before .before .before))
+
+enter-requires : tie.Need-enter-requires
+enter-requires c κs =
+    let marked = c .before .before in
+    let told = marked .before .before in
+    let ready = start (searched told) .pre .0 in
+    let row = ready .sound .few (spot told .place) (few told) in
+    record {
+      inside = few told;
+      held-few = omega (arith, row .held, ready .room);
+      held-a-few = omega (arith, row .held-a, ready .room, marked .a-for .ensures, a-few (searched told .tree-for .result));
+    }
 
 show-requires : tie.Need-show-requires
 show-requires c κs =
-    let home = c .before .before in
-    let e = searched (home .before) in
-    (sound e .forest, (rw (home .home-of .ensures) (home-few (aimed e)), spotted (home .before) .inside))
+    let entered = c .before in
+    let classed = entered .before .before .before .before in
+    let told = classed .before in
+    record {
+      forest = sound (searched told) .index .forest;
+      inside = spotted told .inside;
+      classed = omega (arith, class-entered entered, classed .home-of .ensures, home-positive (searched told .tree-for .result));
+      class-few = omega (arith, class-entered entered, class-few classed);
+    }
 
 returns-2 : tie.Need-returns-2
 returns-2 c =
-    let accepted = c .before .before in
-    let home = accepted .before in
-    let e = searched (home .before) in
+    let entered = c .before .before in
+    let accepted = entered .before .before in
+    let marked = accepted .before in
+    let classed = marked .before in
+    let told = classed .before in
+    let e = searched told in
     rw (accepted .accept .ensures)
-    (done-placed (aimed e) (rw (home .home-of .ensures) at (c .show .ensures)) (sound e) (spotted (home .before)))
+    (done-placed (aimed e) (rw (classed .home-of .ensures, marked .a-for .ensures) at (entered .enter .ensures)) (c .show .ensures) (few told) (sound e) (spotted told))
 
 pub place-fitting-spec : {M : Type 1} → statement M
 place-fitting-spec =
     tie.close
-    (tie.spec tree-for-requires find-spot-requires enum-known-offer enum-told refuse-requires returns home-of-requires accept-requires add-bin
-    cast-bin show-requires returns-2)
+    (tie.spec tree-for-requires find-spot-requires enum-known-offer enum-told refuse-requires returns home-of-requires cast-class a-for-requires accept-requires add-bin
+    cast-bin enter-requires show-requires returns-2)

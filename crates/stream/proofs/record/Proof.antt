@@ -1,19 +1,21 @@
--- `shelve` meets its contract: each refusal is the verdict and leaves the row as it was, and an accepted stream is what `answer_all` ensures.
-use mathlib.Core.Path.{_≡_, refl, sym, ap, _∙_}
+-- `record` meets its contract: each refusal is the verdict and leaves the row as it was, and an accepted stream is what `answer_all` ensures.
+use mathlib.Core.Path.{_≡_, refl, sym, _∙_}
 use mathlib.Core.List.{List}
 use Prim.Native.Nat.{ℕ}
 use lib.ListN.{length}
 use borrow.Author.Needs.{needs}
-use Rattle.packing.specs.Streams.{Read, verdict}
+use Rattle.packing.specs.declared.{StreamReason.StreamReason, StreamResult.StreamResult}
+use Rattle.packing.specs.Streams.{refused, verdict}
 use Rattle.packing.specs.Run.{result, rowAtExit}
 use Rattle.packing.proofs.Limits.{in-limits}
 use Rattle.tournament.specs.Trees.{rowWords}
 use Rattle.engine.proofs.Empty.{empty-store}
 use Rattle.stream.specs.Running.{Runnable}
+use Rattle.stream.specs.Recorded.{Recorded}
 use Rattle.stream.proofs.Verdicts.{verdict-refused, verdict-short, verdict-accepted}
 use Rattle.stream.proofs.Going.{runnable-whole, ran-result}
-use Rattle.stream.proofs.shelve.Statement.{statement}
-use Rattle.stream.proofs.shelve.Tie as tie
+use Rattle.stream.proofs.record.Statement.{statement}
+use Rattle.stream.proofs.record.Tie as tie
 
 -- Where the stream is read: its bytes, and the row.
 module _ (c : tie.After-validate) where
@@ -23,10 +25,14 @@ module _ (c : tie.After-validate) where
   abbrev row : List ℕ
   row = c .before .before .before .args .answers .now
 
+  abbrev ledger : List (List ℕ)
+  ledger = c .before .before .before .args .ledger .now
+
   -- A refusal, told by the verdict.
-  refuses : {v : Read} → verdict bytes (length row) ≡ v
-      → (result v ≡ result (verdict bytes (length row))) × (rowAtExit v row ≡ rowAtExit (verdict bytes (length row)) row)
-  refuses e = (sym (ap result e), sym (ap (λ (r : Read). rowAtExit r row) e))
+  refuses : {reason : StreamReason} {offset : ℕ} → verdict bytes (length row) ≡ refused reason offset
+      → (StreamResult.Refused reason offset ≡ result (verdict bytes (length row)))
+      × ((row ≡ rowAtExit (verdict bytes (length row)) row) × Recorded (verdict bytes (length row)) ledger)
+  refuses e = (rw e, (rw e, rw e (c .before .before .before .pre)))
 
 -- Where there are words enough: the stream can be run.
 module _ (c : tie.Else1) where
@@ -62,9 +68,9 @@ shape-of-requires c κs = in-limits (told c .opening .given .0 .0) (runnable-who
 
 answer-all-requires : tie.Need-answer-all-requires
 answer-all-requires c κs =
-    let s = c .before .before in
+    let s = c .before .before .before in
     let e = s .before in
-    (runs e, empty-store _ _ rowWords refl (runnable-whole (runs e) .opening-good) (s .shape-of .ensures))
+    (runs e, rw (read e .before .before .before .pre) (empty-store _ _ rowWords refl (runnable-whole (runs e) .opening-good) (s .shape-of .ensures)))
 
 cast-items : tie.Need-cast-items
 cast-items c = search needs
@@ -84,8 +90,8 @@ same-length c = search needs
 returns-3 : tie.Need-returns-3
 returns-3 c = ran-result (c .before .before .before .before .answer-all .ensures)
 
-pub shelve-spec : {M : Type 1} → statement M
-shelve-spec =
+pub record-spec : {M : Type 1} → statement M
+record-spec =
     tie.close
     (tie.spec validate-requires enum-known-reason enum-known-opening returns shape-of-requires answer-all-requires cast-items cast-opened returns-2
     same-length

@@ -1,6 +1,6 @@
--- A bin's free space stored in one tree of five, and then in tree 0 too: all else is as it was.
-use mathlib.Core.Path.{_≡_, refl, sym, ap, _∙_}
-use mathlib.Core.Bool.{Bool, true, false, _&&_, _||_, and-true, and-false, or-false}
+-- A value stored in one tree of five: all else is as it was.
+use mathlib.Core.Path.{_≡_, sym, ap, _∙_}
+use mathlib.Core.Bool.{_&&_, and-true, and-false}
 use mathlib.Core.List.{List}
 use Prim.Native.Nat.{ℕ, _+_, _*_, _<_}
 use native.Mathlib.Decide.{ℕ-discrete}
@@ -14,8 +14,7 @@ use Rattle.tournament.specs.declared.Shape.{Shape}
 use Rattle.tournament.specs.Trees.{stride}
 use Rattle.climb.specs.Stored.{Stored}
 use Rattle.tournament.proofs.Leaves.{leaf-node, leaves-length}
-use Rattle.engine.specs.Store.{base, shownBy, shownAt, Forest}
-use Rattle.engine.specs.Shown.{Shown}
+use Rattle.index.specs.Trees.{base, shownBy, shownAt, Forest}
 
 -- Every place of a tree is a leaf of it.
 pub leaf-count : {shape : Shape} {t : List ℕ} → Forest shape t → (n : ℕ) → n < 5 → length (shownBy t shape n) ≡ shape .places
@@ -56,23 +55,3 @@ module _ {shape : Shape} {t u : List ℕ} {h i free : ℕ} (f : Forest shape t) 
     | no e ↦ rw (ne-eqb h n e, and-false)
         (leaf-node u (base n) (shape .places) j l ∙ elsewhere n (shape .places + j) e (omega (arith, f .few)) ∙ sym (leaf-node t (base n) (shape .places) j l))
   ]
-
-  pub shown-once : Shown shape t h false i free u
-  shown-once = record { forest = still; shown = λ n j m l. rw or-false (stored n j l) }
-
--- Stored so, and then in tree 0.
-pub shown-twice : {shape : Shape} {t u v : List ℕ} {h i free : ℕ} → i < shape .places
-    → Shown shape t h false i free u → Stored 0 shape u i free v → Shown shape t h true i free v
-shown-twice {h = h} {i = i} inside a s =
-    let few : 0 < 5 = omega arith in
-    record {
-      forest = still (a .forest) few inside s;
-      shown = λ n j m l. stored (a .forest) few inside s n j l ∙ rw (a .shown n j m l) (either (eqb j i) (eqb h n) (eqb 0 n) _ _);
-    }
-  where
-    either : (x y z : Bool) (a b : ℕ) → (if x && z then a else (if x && (y || false) then a else b)) ≡ (if x && (y || z) then a else b)
-    either true true true a b = refl
-    either true true false a b = refl
-    either true false true a b = refl
-    either true false false a b = refl
-    either false y z a b = refl
