@@ -5,13 +5,17 @@ use Prim.Native.Nat.{ℕ, suc, _+_}
 use native.Mathlib.Omega.{arith}
 use lib.ListN.{length, drop, set, length-append}
 use lib.Seq.{sets, length-sets, sets-eq}
-use Rattle.text.specs.Writing.{Room, Wrote}
+use Rattle.text.specs.Writing.{Room, Wrote, AtFront}
 
 pub sets-append : (row : List ℕ) (at : ℕ) (x y : List ℕ) → sets (sets row at x) (at + length x) y ≡ sets row at (x ++ y)
 sets-append row at [] y = ap (λ (k : ℕ). sets row k y) (omega arith)
 sets-append row at (b ∷ x) y =
     let e : at + suc (length x) ≡ suc at + length x = omega arith in
     ap (λ (k : ℕ). sets (sets (set row at b) (suc at) x) k y) e ∙ sets-append (set row at b) (suc at) x y
+
+-- Writing leaves the row as long as it is.
+pub wrote-same : {row : List ℕ} {at : ℕ} {x : List ℕ} {end : ℕ} {row′ : List ℕ} → Wrote row at x end row′ → length row′ ≡ length row
+wrote-same {row = row} {at = at} {x = x} w = ap length (w .bytes) ∙ length-sets row at x
 
 module _ (row : List ℕ) (at : ℕ) (x y : List ℕ) where
   -- Where both have room, so has the first, and behind it the second.
@@ -29,9 +33,8 @@ module _ (row : List ℕ) (at : ℕ) (x y : List ℕ) where
           bytes = second .bytes ∙ ap (λ (r : List ℕ). sets r mid y) (first .bytes) ∙ ap (λ (k : ℕ). sets (sets row at x) k y) (first .place) ∙ sets-append row at x y;
         }
 
--- What is written from the front on, as the contract of `print` says it.
-pub at-front : (row text : List ℕ) (end : ℕ) (row′ : List ℕ) → Room row 0 text → Wrote row 0 text end row′
-    → (end ≡ length text) × (row′ ≡ text ++ drop (length text) row)
+-- What is written from the front on stands at the front.
+pub at-front : (row text : List ℕ) (end : ℕ) (row′ : List ℕ) → Room row 0 text → Wrote row 0 text end row′ → AtFront row text end row′
 at-front row text end row′ h w =
     let n : 0 + length text ≡ length text = omega arith in
     (w .place ∙ n, w .bytes ∙ sets-eq text row 0 h ∙ ap (λ (k : ℕ). text ++ drop k row) n)

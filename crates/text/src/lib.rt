@@ -3,7 +3,8 @@ ghost use mathlib.Core.List.{_∷_, []};
 ghost use Rattle.text.specs.Lines.{decimal, figure, figures, line};
 ghost use Rattle.text.specs.Writing.{Room, Wrote};
 
-fn put_byte(out: &mut [u8], at: usize, byte: u8) -> usize
+// A byte.
+pub fn put_byte(out: &mut [u8], at: usize, byte: u8) -> usize
     requires { ⌜ Room (now out) at (byte ∷ []) ⌝ }
     ensures { λ r. ⌜ Wrote (now (out .entry)) at (byte ∷ []) r (now (out .exit)) ⌝ }
 {

@@ -1,0 +1,2 @@
+-- The laws that fields rest on.
+pub mod Widths

@@ -1,0 +1,2 @@
+-- Numbers in fields of a width.
+pub mod Fields
