@@ -20,75 +20,81 @@ use Rattle.packing.proofs.Running.{placements-few}
 use Rattle.packing.proofs.Given.{stream-number-few}
 use Rattle.packing.proofs.Accepted.{accepted-whole}
 use Rattle.text.specs.Lines.{digits, decimal, line}
+use Rattle.text.specs.Writing.{AtFront}
 use Rattle.text.proofs.Lengths.{line-few}
-use Rattle.report.specs.Lines.{lines, text, printed, mostOfALine, mostOfAnswers}
+use Rattle.report.specs.Lines.{lines, answersText, refusal, mostBytes, overlong, text, printing, printed, mostOfARefusal, mostOfALine, mostOfAnswers}
 use Rattle.report.specs.Writing.{Listable}
 
 -- "L 32768" and the newline.
-pub long-length : length (line (code "L") (32_768 ∷ [])) ≡ 8
+pub long-length : length overlong ≡ 8
 unfolding line decimal digits
 long-length = refl
 
 -- The line of a refusal, whose offset is some number of 64 bits.
-pub refusal-few : (reason : StreamReason) (offset : ℕ) → offset < 18446744073709551616 → length (line (code "X") (streamNumber reason ∷ offset ∷ [])) ≤ 25
+pub refusal-few : (reason : StreamReason) (offset : ℕ) → offset < 18446744073709551616 → length (refusal reason offset) ≤ mostOfARefusal
 refusal-few reason offset h = line-few (code "X") 0 19 (streamNumber reason) offset (omega (arith, stream-number-few reason)) (omega arith)
 
-module _ (stream : List ℕ) where
-  pub printed-long : 32_768 < length stream → printed stream ≡ line (code "L") (32_768 ∷ [])
-  unfolding printed
-  printed-long h = rw (lt-ltb 32_768 (length stream) h)
+module _ (made : Opening → List Command → List ℕ) (stream : List ℕ) where
+  pub printing-long : mostBytes < length stream → printing made stream ≡ overlong
+  unfolding printing
+  printing-long h = rw (lt-ltb mostBytes (length stream) h)
 
-  module _ (short : length stream ≤ 32_768) where
-    printed-text : printed stream ≡ text (verdict stream mostCommands)
-    unfolding printed
-    printed-text = rw (le-ltb 32_768 (length stream) short)
+  module _ (short : length stream ≤ mostBytes) where
+    printing-text : printing made stream ≡ text made (verdict stream mostCommands)
+    unfolding printing
+    printing-text = rw (le-ltb mostBytes (length stream) short)
 
-    pub printed-refused : (reason : StreamReason) (offset : ℕ) → StreamResult.Refused reason offset ≡ result (verdict stream mostCommands)
-        → printed stream ≡ line (code "X") (streamNumber reason ∷ offset ∷ [])
+    pub printing-refused : (reason : StreamReason) (offset : ℕ) → StreamResult.Refused reason offset ≡ result (verdict stream mostCommands)
+        → printing made stream ≡ refusal reason offset
     unfolding text
-    printed-refused reason offset e = printed-text ∙ go (verdict stream mostCommands) e
+    printing-refused reason offset e = printing-text ∙ go (verdict stream mostCommands) e
       where
-        go : (r : Read) → StreamResult.Refused reason offset ≡ result r → text r ≡ line (code "X") (streamNumber reason ∷ offset ∷ [])
+        go : (r : Read) → StreamResult.Refused reason offset ≡ result r → text made r ≡ refusal reason offset
         go (accepted o cs) q = clash (cc)
         go (refused reason′ offset′) q = cc
 
-  module _ (items bins : ℕ) (e : StreamResult.Accepted items bins ≡ result (verdict stream mostCommands)) where
-    -- With its words and room for each line, an accepted stream can be listed.
-    pub listable : (words row out : List ℕ) → words ≡ rowAtExit (verdict stream mostCommands) row → mostOfAnswers ≤ length out → Listable stream words out
-    listable words row out w h = go (verdict stream mostCommands) refl e
-      where
-        go : (r : Read) → verdict stream mostCommands ≡ r → StreamResult.Accepted items bins ≡ result r → Listable stream words out
-        go (accepted o cs) p q =
-            record { opening = o; commands = cs; accepts = p; others = drop (length cs) row; answers = w ∙ ap (λ (r : Read). rowAtExit r row) p; room = h }
-        go (refused reason offset) p q = clash (cc)
+    pub printing-accepted : (o : Opening) (cs : List Command) → verdict stream mostCommands ≡ accepted o cs → printing made stream ≡ made o cs
+    unfolding text
+    printing-accepted o cs accepts = printing-text ∙ ap (text made) accepts
 
-    module _ (o : Opening) (cs : List Command) (accepts : verdict stream mostCommands ≡ accepted o cs) where
-      returned : StreamResult.Accepted items bins ≡ result (accepted o cs)
-      returned = e ∙ ap result accepts
+-- What is returned of an accepted stream tells that it is one, its items and its bins.
+module _ (stream : List ℕ) (items bins : ℕ) (e : StreamResult.Accepted items bins ≡ result (verdict stream mostCommands)) where
+  -- With its words and room for each line, an accepted stream can be listed.
+  pub listable : (words row out : List ℕ) → words ≡ rowAtExit (verdict stream mostCommands) row → mostOfAnswers ≤ length out → Listable stream words out
+  listable words row out w h = go (verdict stream mostCommands) refl e
+    where
+      go : (r : Read) → verdict stream mostCommands ≡ r → StreamResult.Accepted items bins ≡ result r → Listable stream words out
+      go (accepted o cs) p q =
+          record { opening = o; commands = cs; accepts = p; others = drop (length cs) row; answers = w ∙ ap (λ (r : Read). rowAtExit r row) p; room = h }
+      go (refused reason offset) p q = clash (cc)
 
-      items-are : items ≡ length (placements o cs)
-      items-are = let r = returned in cc
+  module _ (o : Opening) (cs : List Command) (accepts : verdict stream mostCommands ≡ accepted o cs) where
+    returned : StreamResult.Accepted items bins ≡ result (accepted o cs)
+    returned = e ∙ ap result accepts
 
-      bins-are : bins ≡ opened (packing o cs)
-      bins-are = let r = returned in cc
+    items-are : items ≡ length (placements o cs)
+    items-are = let r = returned in cc
 
-      -- "T 4096 512" and the newline.
-      pub totals-few : length (line (code "T") (items ∷ bins ∷ [])) ≤ mostOfALine
-      totals-few =
-          let ok = accepted-whole mostCommands o cs stream accepts in
-          let stock = in-limits o (ok .opening-good) .stock .1 in
-          line-few (code "T") 3 2 items bins
-          (omega (arith, items-are, placements-few o cs, ok .commands-few))
-          (omega (arith, bins-are, reached o cs .stock-lasts, stock))
+    bins-are : bins ≡ opened (packing o cs)
+    bins-are = let r = returned in cc
 
-      pub printed-accepted : length stream ≤ 32_768 → printed stream ≡ lines (answers o cs) ++ line (code "T") (items ∷ bins ∷ [])
-      unfolding text
-      printed-accepted short = printed-text short ∙ ap text accepts ∙ rw (items-are, bins-are)
+    -- "T 4096 512" and the newline.
+    pub totals-few : length (line (code "T") (items ∷ bins ∷ [])) ≤ mostOfALine
+    totals-few =
+        let ok = accepted-whole mostCommands o cs stream accepts in
+        let stock = in-limits o (ok .opening-good) .stock .1 in
+        line-few (code "T") 3 2 items bins
+        (omega (arith, items-are, placements-few o cs, ok .commands-few))
+        (omega (arith, bins-are, reached o cs .stock-lasts, stock))
+
+    pub printed-accepted : length stream ≤ mostBytes → printed stream ≡ lines (answers o cs) ++ line (code "T") (items ∷ bins ∷ [])
+    unfolding printed
+    printed-accepted short = printing-accepted answersText stream short o cs accepts ∙ rw (items-are, bins-are)
 
 -- What the contract of `print` says, for a caller that hands the text on: it stands inside the row.
-module _ (stream row : List ℕ) (end : ℕ) (row′ : List ℕ) where
-  pub print-inside : end ≡ length (printed stream) → row′ ≡ printed stream ++ drop (length (printed stream)) row → end ≤ length row′
-  print-inside e h = omega (arith, ap length h, length-append (printed stream) (drop (length (printed stream)) row))
+module _ (made row : List ℕ) (end : ℕ) (row′ : List ℕ) where
+  pub print-inside : AtFront row made end row′ → end ≤ length row′
+  print-inside h = omega (arith, h .0, ap length (h .1), length-append made (drop (length made) row))
 
-  pub print-length : end ≡ length (printed stream) → row′ ≡ printed stream ++ drop (length (printed stream)) row → end ≡ length (take end row′)
-  print-length e h = sym (length-take-le end row′ (print-inside e h))
+  pub print-length : AtFront row made end row′ → end ≡ length (take end row′)
+  print-length h = sym (length-take-le end row′ (print-inside h))

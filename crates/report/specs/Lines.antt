@@ -3,7 +3,7 @@ use mathlib.Core.List.{List, [], _∷_, _++_, map, flatten}
 use Prim.Native.Nat.{ℕ, _*_}
 use Prim.Native.Char.{code}
 use lib.ListN.{length}
-use Rattle.packing.specs.declared.{Outcome.Outcome, Answer.Answer}
+use Rattle.packing.specs.declared.{Opening.Opening, Command.Command, Outcome.Outcome, Answer.Answer, StreamReason.StreamReason}
 use Rattle.packing.specs.declared.Outcome.the-variants.{Placed, Counted, Refused}
 use Rattle.packing.specs.Prelude.{_<?_, if_then_else_}
 use Rattle.packing.specs.Limits.{mostCommands}
@@ -26,18 +26,36 @@ answerLine a = lineOf (a .number) (a .outcome)
 abbrev pub lines : List Answer → List ℕ
 lines rows = flatten (map answerLine rows)
 
--- "At the end `T` masters-accepted cartridges-opened. A refused stream prints only `X` number offset."
-unfoldable pub text : Read → List ℕ
-text (accepted o cs) = lines (answers o cs) ++ line (code "T") (length (placements o cs) ∷ opened (packing o cs) ∷ [])
-text (refused reason offset) = line (code "X") (streamNumber reason ∷ offset ∷ [])
+-- "At the end `T` masters-accepted cartridges-opened."
+abbrev pub answersText : Opening → List Command → List ℕ
+answersText o cs = lines (answers o cs) ++ line (code "T") (length (placements o cs) ∷ opened (packing o cs) ∷ [])
+
+-- "A refused stream prints only `X` number offset."
+abbrev pub refusal : StreamReason → (offset : ℕ) → List ℕ
+refusal reason offset = line (code "X") (streamNumber reason ∷ offset ∷ [])
 
 -- "`shelve` reads a stream of at most 32,768 bytes from standard input; a longer one prints only `L 32768`."
 abbrev pub mostBytes : ℕ
 mostBytes = 32_768
 
--- `shelve` lends as many words as there can be commands, so refusal 7 never comes.
+abbrev pub overlong : List ℕ
+overlong = line (code "L") (mostBytes ∷ [])
+
+-- What a program prints that makes such a text of an accepted stream. It lends as many words as there can be commands, so refusal 7 never comes.
+module _ (made : Opening → List Command → List ℕ) where
+  unfoldable pub text : Read → List ℕ
+  text (accepted o cs) = made o cs
+  text (refused reason offset) = refusal reason offset
+
+  unfoldable pub printing : (stream : List ℕ) → List ℕ
+  printing stream = if mostBytes <? length stream then overlong else text (verdict stream mostCommands)
+
 unfoldable pub printed : (stream : List ℕ) → List ℕ
-printed stream = if mostBytes <? length stream then line (code "L") (mostBytes ∷ []) else text (verdict stream mostCommands)
+printed stream = printing answersText stream
+
+-- Neither the line of a refusal ("X 6 18446744073709551615" and its newline) nor that of an overlong stream is longer than this.
+abbrev pub mostOfARefusal : ℕ
+mostOfARefusal = 25
 
 -- No line of an answer or of the totals is longer than this ("P 4096 512" and its newline), and so not the lines of all answers.
 abbrev pub mostOfALine : ℕ

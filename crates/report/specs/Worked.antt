@@ -12,7 +12,7 @@ use Rattle.packing.specs.Streams.{widths, lookup, commands, read}
 use Rattle.packing.specs.Run.{runFrom}
 use Rattle.packing.specs.Worked.{sample}
 use Rattle.text.specs.Lines.{digits, decimal, line}
-use Rattle.report.specs.Lines.{text, printed}
+use Rattle.report.specs.Lines.{text, printing, printed}
 
 -- A text as bytes.
 unfoldable pub bytes : String → List ℕ
@@ -28,5 +28,5 @@ table =
     []
 
 pub worked-texts : map (λ c. printed (c .0)) table ≡ map (λ c. bytes (c .1)) table
-unfolding table bytes printed text line decimal digits sizeClass total any firstFit put decision placed runFrom flatten widths lookup commands read
+unfolding table bytes printed printing text line decimal digits sizeClass total any firstFit put decision placed runFrom flatten widths lookup commands read
 worked-texts = refl

@@ -1,15 +1,14 @@
 // The text that the program `shelve` prints of a stream, in a row of bytes that the caller lends.
 mod answers;
+pub mod refused;
 
+use crate::refused::MOST_BYTES;
 use limits::MOST_COMMANDS;
 use packing::StreamResult;
 ghost use mathlib.Core.Path.{_≡_};
 ghost use mathlib.Core.List.{_++_};
 ghost use lib.ListN.{length, drop};
 ghost use Rattle.report.specs.Lines.{printed};
-
-// A stream may have so many bytes.
-const MOST_BYTES: usize = 32768;
 
 // No line of an answer or of the totals has more bytes.
 const LINE: usize = 11;
@@ -23,14 +22,11 @@ pub fn print(stream: &[u8], out: &mut [u8; N]) -> usize
     ensures bytes { λ _. ⌜ now (out .exit) ≡ printed (now (stream .entry)) ++ drop (length (printed (now (stream .entry)))) (now (out .entry)) ⌝ }
 {
     if MOST_BYTES < stream.len() {
-        return text::put_short_line(out, 0, b'L', MOST_BYTES);
+        return refused::put_overlong(out);
     }
     let mut words = [0u16; MOST_COMMANDS];
     match stream::shelve(stream, &mut words) {
-        StreamResult::Refused { reason, offset } => {
-            let number = refusals::stream_number(reason) as usize;
-            text::put_line(out, 0, b'X', number, offset)
-        }
+        StreamResult::Refused { reason, offset } => refused::put_refusal(out, reason, offset),
         StreamResult::Accepted { items, opened } => {
             let end = answers::put_answers(stream, &words, out);
             text::put_line(out, end, b'T', items, opened)

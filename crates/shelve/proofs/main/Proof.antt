@@ -1,5 +1,6 @@
 -- `main` is safe: what is read and what is printed stand inside their rows.
 use borrow.Author.Needs.{needs}
+use Rattle.report.specs.Lines.{printed}
 use Rattle.report.proofs.Texts.{print-inside, print-length}
 use Rattle.shelve.proofs.main.Statement.{statement}
 use Rattle.shelve.proofs.main.Tie as tie
@@ -20,10 +21,10 @@ print-requires : tie.Need-print-requires
 print-requires c κs = search needs
 
 array-share-prefix-out : tie.Need-array-share-prefix-out
-array-share-prefix-out c = print-inside _ _ _ _ (c .print .ensures .0) (c .print .ensures .1)
+array-share-prefix-out c = print-inside (printed _) _ _ _ (c .print .ensures)
 
 slice-aggregate-write-all : tie.Need-slice-aggregate-write-all
-slice-aggregate-write-all c = print-length _ _ _ _ (c .before .print .ensures .0) (c .before .print .ensures .1)
+slice-aggregate-write-all c = print-length (printed _) _ _ _ (c .before .print .ensures)
 
 write-all-requires : tie.Need-write-all-requires
 write-all-requires c κs = search needs

@@ -1,5 +1,6 @@
 -- `show` is safe: what is printed stands inside its row.
 use borrow.Author.Needs.{needs}
+use Rattle.report.specs.Lines.{printed}
 use Rattle.report.proofs.Texts.{print-inside, print-length}
 use Rattle.shelve_cases.proofs.show.Statement.{statement}
 use Rattle.shelve_cases.proofs.show.Tie as tie
@@ -11,10 +12,10 @@ print-requires : tie.Need-print-requires
 print-requires c κs = search needs
 
 array-share-prefix-out : tie.Need-array-share-prefix-out
-array-share-prefix-out c = print-inside _ _ _ _ (c .print .ensures .0) (c .print .ensures .1)
+array-share-prefix-out c = print-inside (printed _) _ _ _ (c .print .ensures)
 
 slice-aggregate-write-all : tie.Need-slice-aggregate-write-all
-slice-aggregate-write-all c = print-length _ _ _ _ (c .before .print .ensures .0) (c .before .print .ensures .1)
+slice-aggregate-write-all c = print-length (printed _) _ _ _ (c .before .print .ensures)
 
 write-all-requires-2 : tie.Need-write-all-requires-2
 write-all-requires-2 c κs = search needs

@@ -1,5 +1,6 @@
 -- `show_end` is safe: what is printed stands inside its row, and so does its end.
 use borrow.Author.Needs.{needs}
+use Rattle.report.specs.Lines.{printed}
 use Rattle.report.proofs.Texts.{print-inside}
 use Rattle.shelve_cases.proofs.show_end.Statement.{statement}
 use Rattle.shelve_cases.proofs.show_end.Tie as tie
@@ -28,7 +29,7 @@ part-write-all-start c = search needs
 part-write-all-end : tie.Need-part-write-all-end
 part-write-all-end c =
     let p = c .before .before .before .before .before in
-    print-inside _ _ _ _ (p .print .ensures .0) (p .print .ensures .1)
+    print-inside (printed _) _ _ _ (p .print .ensures)
 
 write-all-requires-3 : tie.Need-write-all-requires-3
 write-all-requires-3 c κs = search needs

@@ -1,0 +1,22 @@
+-- `put_overlong` meets its contract: a row has room for the line.
+use native.Mathlib.Omega.{arith}
+use borrow.Author.Needs.{needs}
+use Rattle.text.proofs.Rows.{at-front}
+use Rattle.report.proofs.Texts.{long-length}
+use Rattle.report.proofs.refused.put_overlong.Statement.{statement}
+use Rattle.report.proofs.refused.put_overlong.Tie as tie
+
+put-short-line-requires : tie.Need-put-short-line-requires
+put-short-line-requires c κs = omega (arith, long-length, c .before .before .pre)
+
+same-length : tie.Need-same-length
+same-length c = search needs
+
+returns : tie.Need-returns
+returns c =
+    let w = c .before .before in
+    let s = w .before .before .before in
+    at-front (s .args .out .now) _ _ _ (omega (arith, long-length, s .pre)) (w .put-short-line .ensures)
+
+pub put-overlong-spec : {M : Type 1} → statement M
+put-overlong-spec = tie.close (tie.spec put-short-line-requires same-length returns)

@@ -1,0 +1,26 @@
+// What is printed of a stream that is refused, or too long to be read: the same by every program. The line stands at the front of the row.
+use packing::StreamReason;
+ghost use Prim.Native.Nat.{_≤_};
+ghost use lib.ListN.{length};
+ghost use Rattle.text.specs.Writing.{AtFront};
+ghost use Rattle.report.specs.Lines.{refusal, overlong, mostOfARefusal};
+
+// A stream may have so many bytes.
+pub const MOST_BYTES: usize = 32768;
+
+// The line of a refusal.
+pub fn put_refusal(out: &mut [u8], reason: StreamReason, offset: usize) -> usize
+    requires { ⌜ mostOfARefusal ≤ length (now out) ⌝ }
+    ensures { λ r. ⌜ AtFront (now (out .entry)) (refusal reason offset) r (now (out .exit)) ⌝ }
+{
+    let number = refusals::stream_number(reason) as usize;
+    text::put_line(out, 0, b'X', number, offset)
+}
+
+// The line of a stream with more bytes.
+pub fn put_overlong(out: &mut [u8]) -> usize
+    requires { ⌜ mostOfARefusal ≤ length (now out) ⌝ }
+    ensures { λ r. ⌜ AtFront (now (out .entry)) overlong r (now (out .exit)) ⌝ }
+{
+    text::put_short_line(out, 0, b'L', MOST_BYTES)
+}
