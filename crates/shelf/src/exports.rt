@@ -1,12 +1,16 @@
 // The calls for C and Rust, over the calls of this crate: a result is one 64-bit number. include/shelf.h documents them.
 ghost use mathlib.Core.Path.{_≡_};
-ghost use lib.ListN.{length};
+ghost use mathlib.Core.List.{_++_};
+ghost use lib.ListN.{length, drop};
+ghost use Rattle.packing.specs.Limits.{mostCommands};
 ghost use Rattle.packing.specs.Streams.{verdict};
 ghost use Rattle.packing.specs.Run.{result, rowAtExit};
 ghost use Rattle.packing.specs.Plans.{planOf, check};
 ghost use Rattle.packing.specs.Claims.{HoldsAnswered, NeverOverfull, LoadsAddUp, Counts};
 ghost use Rattle.worst_case.specs.OwnPlan.{OwnPlan};
 ghost use Rattle.worst_case.specs.WorstCase.{WorstCase};
+ghost use Rattle.sheet.specs.Sheet.{sheet};
+ghost use Rattle.sheet.specs.Claims.{LinesOf40, OneRowEach, SheetLoadsAddUp, FreeAndLoad, PagesOpen};
 ghost use Rattle.shelf.specs.Accepted.{WhenAccepted};
 ghost use Rattle.codes.specs.Codes.{streamCode, FiguresFit, planCode, PlaceFits, ZeroExactly};
 
@@ -25,6 +29,20 @@ pub extern "C" fn shelve_stream(stream: &[u8], answers: &mut [u16]) -> u64
 {
     let r = crate::shelve(stream, answers);
     codes::stream_code(r)
+}
+
+// The vault sheet of a stream (`shelf::print_sheet`).
+#[no_mangle]
+pub extern "C" fn shelf_sheet(stream: &[u8], out: &mut [u8; sheet::N]) -> u64
+    ensures result { λ r. ⌜ r ≡ length (sheet (now (stream .entry))) ⌝ }
+    ensures bytes { λ _. ⌜ now (out .exit) ≡ sheet (now (stream .entry)) ++ drop (length (sheet (now (stream .entry)))) (now (out .entry)) ⌝ }
+    ensures lines_of_40 { λ _. ⌜ WhenAccepted (now (stream .entry)) mostCommands LinesOf40 ⌝ }
+    ensures one_row_each { λ _. ⌜ WhenAccepted (now (stream .entry)) mostCommands OneRowEach ⌝ }
+    ensures loads_add_up { λ _. ⌜ WhenAccepted (now (stream .entry)) mostCommands SheetLoadsAddUp ⌝ }
+    ensures free_and_load { λ _. ⌜ WhenAccepted (now (stream .entry)) mostCommands FreeAndLoad ⌝ }
+    ensures pages_open { λ _. ⌜ WhenAccepted (now (stream .entry)) mostCommands PagesOpen ⌝ }
+{
+    crate::print_sheet(stream, out) as u64
 }
 
 // Checks a plan in two rows (`shelf::check_rows`): 0 is passed.

@@ -5,7 +5,9 @@ use packing::PlanResult;
 use packing::StreamResult;
 pub use plan::check_plan;
 ghost use mathlib.Core.Path.{_≡_};
-ghost use lib.ListN.{length};
+ghost use mathlib.Core.List.{_++_};
+ghost use lib.ListN.{length, drop};
+ghost use Rattle.packing.specs.Limits.{mostCommands};
 ghost use Rattle.packing.specs.Refusals.{streamGives, planGives};
 ghost use Rattle.packing.specs.Streams.{verdict};
 ghost use Rattle.packing.specs.Run.{result, rowAtExit};
@@ -14,6 +16,8 @@ ghost use Rattle.packing.specs.Claims.{HoldsAnswered, NeverOverfull, LoadsAddUp
 ghost use Rattle.worst_case.specs.PlanFits.{Exact};
 ghost use Rattle.worst_case.specs.OwnPlan.{OwnPlan};
 ghost use Rattle.worst_case.specs.WorstCase.{WorstCase};
+ghost use Rattle.sheet.specs.Sheet.{sheet};
+ghost use Rattle.sheet.specs.Claims.{LinesOf40, OneRowEach, SheetLoadsAddUp, FreeAndLoad, PagesOpen};
 ghost use Rattle.shelf.specs.Accepted.{WhenAccepted};
 
 // Shelves the items of a command stream, and answers each command by a word of the row that the caller lends. Of the packing so made, if no
@@ -31,6 +35,21 @@ pub fn shelve(stream: &[u8], answers: &mut [u16]) -> StreamResult
     ensures worst_case { λ _. ⌜ WhenAccepted (now (stream .entry)) (length (now (answers .entry))) WorstCase ⌝ }
 {
     stream::shelve(stream, answers)
+}
+
+// The vault sheet of a stream, at the front of the bytes that the caller lends. Of an accepted stream: each line has 40 characters; every opened bin
+// and no other has a row, rising from 1; the loads add up to the sizes accepted; on each row free and load make up the capacity; and a page opens
+// before bin 1, 51, 101 and so on.
+pub fn print_sheet(stream: &[u8], out: &mut [u8; sheet::N]) -> usize
+    ensures result { λ r. ⌜ r ≡ length (sheet (now (stream .entry))) ⌝ }
+    ensures bytes { λ _. ⌜ now (out .exit) ≡ sheet (now (stream .entry)) ++ drop (length (sheet (now (stream .entry)))) (now (out .entry)) ⌝ }
+    ensures lines_of_40 { λ _. ⌜ WhenAccepted (now (stream .entry)) mostCommands LinesOf40 ⌝ }
+    ensures one_row_each { λ _. ⌜ WhenAccepted (now (stream .entry)) mostCommands OneRowEach ⌝ }
+    ensures loads_add_up { λ _. ⌜ WhenAccepted (now (stream .entry)) mostCommands SheetLoadsAddUp ⌝ }
+    ensures free_and_load { λ _. ⌜ WhenAccepted (now (stream .entry)) mostCommands FreeAndLoad ⌝ }
+    ensures pages_open { λ _. ⌜ WhenAccepted (now (stream .entry)) mostCommands PagesOpen ⌝ }
+{
+    sheet::print(stream, out)
 }
 
 // Checks a plan that lies in two rows, of sizes and of bin numbers, against the sizes of the items.

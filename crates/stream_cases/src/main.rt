@@ -1,5 +1,5 @@
-// What is printed of streams at the edges of document 01: each case writes its name and then the text. The expected text of all cases is the file
-// stdout, which the gate compares.
+// What is printed of streams at the edges of the papers, answers first and then sheets: each case writes its name and then the text. The expected text
+// of all cases is the file stdout, which the gate compares.
 use libc::STDOUT_FILENO;
 ghost use Prim.Native.Nat.{_≤_};
 ghost use lib.ListN.{length};
@@ -7,7 +7,7 @@ ghost use lib.ListN.{length};
 // one byte more than the longest stream
 const SPACE: usize = 32769;
 
-// A stream's text.
+// The answers to a stream.
 fn show(name: &[u8], stream: &[u8]) {
     io::write_all(STDOUT_FILENO, name);
     let mut out = [0u8; report::N];
@@ -15,7 +15,15 @@ fn show(name: &[u8], stream: &[u8]) {
     io::write_all(STDOUT_FILENO, &out[..end]);
 }
 
-// Of a long text, its length and its last bytes.
+// The sheet of a stream.
+fn show_sheet(name: &[u8], stream: &[u8]) {
+    io::write_all(STDOUT_FILENO, name);
+    let mut out = [0u8; sheet::N];
+    let end = sheet::print(stream, &mut out);
+    io::write_all(STDOUT_FILENO, &out[..end]);
+}
+
+// Of a long text of answers, its length and its last bytes.
 fn show_end(name: &[u8], stream: &[u8], last: usize) {
     io::write_all(STDOUT_FILENO, name);
     let mut out = [0u8; report::N];
@@ -142,6 +150,41 @@ fn lengths() {
     show(b"32769 bytes\n", front(&s, longer));
 }
 
+// Sheets with none opened: an opening alone, and behind it a count and items that are refused. Streams without a sheet: with no opening, and one that
+// is refused behind an item. Then the largest load.
+fn short_sheets() {
+    show_sheet(b"sheet, opening alone\n", b"\x01\0\0\0\x3c\0\x04\x06");
+    show_sheet(
+        b"sheet, none placed\n",
+        b"\x01\0\0\0\x3c\0\x04\x06\x03\x02\0\0\0\0\x02\0\0\0\x3d",
+    );
+    show_sheet(b"sheet, empty\n", b"");
+    show_sheet(
+        b"sheet, 2, byte 00 after an item\n",
+        b"\x01\0\0\0\x3c\0\x04\x06\x02\0\0\0\x16\0",
+    );
+    show_sheet(
+        b"sheet, load 16777216\n",
+        b"\x01\x01\0\0\0\0\x01\x06\x02\x01\0\0\0",
+    );
+}
+
+// Sheets of full bins: a page, one line more, and as many as a stock can have; a stream with too many commands, and one byte longer than any. Then as
+// many items in one bin as there may be commands.
+fn long_sheets() {
+    let mut s = [0u8; SPACE];
+    let first = fill(&mut s, 0, 8, b"\x01\0\0\0\x3c\x02\0\x06");
+    fill(&mut s, first, SPACE, b"\x02\0\0\0\x3c");
+    show_sheet(b"sheet, 50 opened\n", front(&s, 258));
+    show_sheet(b"sheet, 51 opened\n", front(&s, 263));
+    show_sheet(b"sheet, 512 opened\n", front(&s, 2568));
+    show_sheet(b"sheet, 32768 bytes\n", front(&s, 32768));
+    show_sheet(b"sheet, 32769 bytes\n", front(&s, 32769));
+    let first = fill(&mut s, 0, 8, b"\x01\x01\0\0\0\0\x01\x09");
+    fill(&mut s, first, 20480, b"\x02\0\0\0\x01");
+    show_sheet(b"sheet, 4096 held\n", front(&s, 20488));
+}
+
 fn main() {
     refusals();
     orders();
@@ -149,4 +192,6 @@ fn main() {
     answers();
     commands();
     lengths();
+    short_sheets();
+    long_sheets();
 }

@@ -3,8 +3,8 @@ use Prim.Native.Nat.{_≤_, _-_}
 use native.Mathlib.Nat.{mod-lt}
 use native.Mathlib.Omega.{arith}
 use borrow.Author.Needs.{needs}
-use Rattle.shelve_cases.proofs.fill.Statement.{statement}
-use Rattle.shelve_cases.proofs.fill.Tie as tie
+use Rattle.stream_cases.proofs.fill.Statement.{statement}
+use Rattle.stream_cases.proofs.fill.Tie as tie
 
 abbrev Inv-loop : tie.InvT-loop
 Inv-loop s₀ from n row at₀ i₀ s at i = i ≤ n

@@ -2,8 +2,8 @@
 use mathlib.Core.Path.{sym}
 use borrow.Author.Needs.{needs}
 use lib.Seq.{length-take-le}
-use Rattle.shelve_cases.proofs.front.Statement.{statement}
-use Rattle.shelve_cases.proofs.front.Tie as tie
+use Rattle.stream_cases.proofs.front.Statement.{statement}
+use Rattle.stream_cases.proofs.front.Tie as tie
 
 slice-aggregate-result : tie.Need-slice-aggregate-result
 slice-aggregate-result c = sym (length-take-le _ _ (c .before .if1 .taken))

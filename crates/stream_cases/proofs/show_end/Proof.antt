@@ -2,8 +2,8 @@
 use borrow.Author.Needs.{needs}
 use Rattle.report.specs.Lines.{printed}
 use Rattle.report.proofs.Texts.{print-inside}
-use Rattle.shelve_cases.proofs.show_end.Statement.{statement}
-use Rattle.shelve_cases.proofs.show_end.Tie as tie
+use Rattle.stream_cases.proofs.show_end.Statement.{statement}
+use Rattle.stream_cases.proofs.show_end.Tie as tie
 
 write-all-requires : tie.Need-write-all-requires
 write-all-requires c κs = search needs

@@ -1,0 +1,82 @@
+// The lines of the sheet, written into a row of bytes. Each function takes the place where its text begins and answers the place behind it. A field
+// that stands behind a space is written as a field one wider.
+use ledger::BINS;
+use ledger::CLASS;
+use ledger::COLUMNS;
+use ledger::FREE;
+use ledger::HELD;
+ghost use Prim.Native.Nat.{_+_, _≤_, _<_};
+ghost use lib.ListN.{length};
+ghost use Rattle.text.specs.Writing.{Wrote, AtFront};
+ghost use Rattle.sheet.specs.Sheet.{page, bin, lineText};
+ghost use Rattle.sheet.specs.Writing.{told, Legible, lineLength, entryText, ledgerText, Enterable, Legibles};
+
+// A page has so many cartridge lines.
+pub const PAGE: usize = 50;
+
+// The line that opens a page.
+fn put_page(out: &mut [u8], at: usize, number: usize) -> usize
+    requires few { ⌜ number < 1000 ⌝ }
+    requires room { ⌜ at + lineLength ≤ length (now out) ⌝ }
+    ensures { λ r. ⌜ Wrote (now (out .entry)) at (lineText (page number)) r (now (out .exit)) ⌝ }
+{
+    let p = text::put_byte(out, at, b'P');
+    let a = text::put_byte(out, p, b'A');
+    let g = text::put_byte(out, a, b'G');
+    let e = text::put_byte(out, g, b'E');
+    let end = fields::put_right(out, e, 4, number);
+    fields::put_end(out, end, 32)
+}
+
+// The line of a cartridge, by its row of the ledger.
+fn put_bin(out: &mut [u8], at: usize, capacity: u32, number: usize, row: [u32; COLUMNS]) -> usize
+    requires legible { ⌜ Legible capacity number row ⌝ }
+    requires room { ⌜ at + lineLength ≤ length (now out) ⌝ }
+    ensures { λ r. ⌜ Wrote (now (out .entry)) at (lineText (bin (told capacity number row))) r (now (out .exit)) ⌝ }
+{
+    let class = row[CLASS] as usize;
+    let free = row[FREE];
+    let load = (capacity - free) as usize;
+    let free = free as usize;
+    let held = row[HELD] as usize;
+    let first = fields::put_right(out, at, 4, number);
+    let second = fields::put_right(out, first, 2, class);
+    let third = fields::put_right(out, second, 9, load);
+    let fourth = fields::put_right(out, third, 9, free);
+    let fifth = fields::put_right(out, fourth, 5, held);
+    fields::put_end(out, fifth, 11)
+}
+
+// The line of a cartridge, behind that of the page which it opens, if it does.
+fn put_entry(out: &mut [u8], at: usize, capacity: u32, number: usize, row: [u32; COLUMNS]) -> usize
+    requires { ⌜ Enterable (now out) at capacity number row ⌝ }
+    ensures { λ r. ⌜ Wrote (now (out .entry)) at (entryText (told capacity number row)) r (now (out .exit)) ⌝ }
+{
+    if number % PAGE == 1 {
+        let page = number / PAGE + 1;
+        let next = put_page(out, at, page);
+        return put_bin(out, next, capacity, number, row);
+    }
+    put_bin(out, at, capacity, number, row)
+}
+
+// The lines of all opened bins, from the front of the row on: bin i + 1 has the ledger's row at place i.
+pub fn put_lines(
+    ledger: &[[u32; COLUMNS]; BINS],
+    capacity: u32,
+    opened: usize,
+    out: &mut [u8],
+) -> usize
+    requires { ⌜ Legibles (now ledger) capacity opened (now out) ⌝ }
+    ensures { λ r. ⌜ AtFront (now (out .entry)) (ledgerText (now (ledger .entry)) capacity opened) r (now (out .exit)) ⌝ }
+{
+    let mut at: usize = 0;
+    let mut place: usize = 0;
+    while place < opened {
+        let row = ledger[place];
+        let number = place + 1;
+        at = put_entry(out, at, capacity, number, row);
+        place = number;
+    }
+    at
+}
