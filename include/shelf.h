@@ -1,20 +1,22 @@
 /*
- * shelf.h - the shelving library: Refined First-Fit over a command stream, and
- * the plan checker. docs/MANUAL.md tells the whole of it.
+ * shelf.h - the shelving library: Refined First-Fit over a command stream, the
+ * vault sheet of a stream, and the plan checker. docs/MANUAL.md tells the whole
+ * of it.
  *
  * Link with libshelf.a, for x86-64 Linux: `rt staticlib shelf` proves the
  * library and writes target/staticlib/libshelf.a. A call allocates nothing and
- * needs about 21 KB of stack (shelve_stream) or 17 KB (check_plan).
+ * needs about 29 KB of stack (shelve_stream), 38 KB (shelf_sheet) or 17 KB
+ * (check_plan).
  *
- * Both calls are total: every input within the rules on pointers below has the
- * result described here. Neither call keeps a pointer, or any state, after it
+ * The calls are total: every input within the rules on pointers below has the
+ * result described here. No call keeps a pointer, or any state, after it
  * returns.
  *
  * Pointers. Each row is a pointer and its length in elements. A pointer must
  * be valid for that many elements, aligned for its type, and not NULL, also
  * where the length is 0 (any address of the type will do then; nothing is read
- * or written through it). The answer row must not overlap the stream. The rows
- * of check_plan are only read and may overlap.
+ * or written through it). Neither the answer row nor the sheet may overlap the
+ * stream. The rows of check_plan are only read and may overlap.
  *
  * Limits.
  *     capacity of a cartridge             1 to 16777216
@@ -22,6 +24,7 @@
  *     m                                   6 to 9
  *     commands after the opening          0 to 4096
  *     entries of a plan, its masters, k   0 to 4096
+ *     bytes of a stream with a sheet      0 to 32768
  */
 #ifndef SHELF_H
 #define SHELF_H
@@ -79,6 +82,37 @@ extern "C" {
  */
 uint64_t shelve_stream(const uint8_t *stream, size_t stream_len,
                        uint16_t *answers, size_t answers_len);
+
+/* The most bytes of a sheet: 512 cartridge lines and 11 page lines of 41. */
+#define SHELF_SHEET_BYTES 21443
+
+/*
+ * Writes the vault sheet of a stream: a text, with a line for each cartridge
+ * that is opened once all of the stream is shelved, and for no other.
+ *
+ * stream       stream_len bytes, only read, as for shelve_stream.
+ * sheet        SHELF_SHEET_BYTES bytes.
+ *
+ * The result is the length of the text, 0 to SHELF_SHEET_BYTES. The text stands
+ * at the front of sheet, with no NUL behind it, and the bytes behind it are
+ * untouched.
+ *
+ * A line has 40 characters and a newline. Numbers are right-aligned with
+ * spaces. A cartridge's line is
+ *     columns     1-4     6      8-15  17-24       26-29         others
+ *     holds       number  class  load  free units  masters held  spaces
+ * in rising number. Before each 50 of them, or what is left of 50, stands
+ *     columns     1-4     6-8          others
+ *     holds       PAGE    page number  spaces
+ * with pages numbered from 1. Where nothing is opened there is no line. The
+ * loads add up to the sizes of the masters accepted.
+ *
+ * Where there is no sheet, the text is one line, not filled up:
+ *     X number offset     the stream is refused, as by shelve_stream with 4096
+ *                         answer words, so never with 7
+ *     L 32768             stream_len is above 32768, whatever the bytes are
+ */
+uint64_t shelf_sheet(const uint8_t *stream, size_t stream_len, uint8_t *sheet);
 
 /*
  * Checks that a plan packs the given masters, in their order, into cartridges

@@ -1,4 +1,5 @@
-/* A panel's round: open a shelf, shelve, read the answers, check a plan. */
+/* A panel's round: open a shelf, shelve, read the answers, print the vault sheet,
+ * check a plan. */
 
 #include <stdio.h>
 
@@ -15,6 +16,13 @@ static uint8_t *put(uint8_t *at, uint32_t number, int bytes)
     while (bytes-- > 0)
         *at++ = (uint8_t)(number >> (8 * bytes));
     return at;
+}
+
+static void print_sheet(const uint8_t *stream, size_t stream_len)
+{
+    static uint8_t sheet[SHELF_SHEET_BYTES];
+
+    fwrite(sheet, 1, (size_t)shelf_sheet(stream, stream_len, sheet), stdout);
 }
 
 static void report(const char *plan, uint64_t result)
@@ -71,6 +79,7 @@ int main(void)
     opened = SHELF_STREAM_OPENED(result);
     printf("%u masters in %u cartridges\n",
            (unsigned)SHELF_STREAM_MASTERS(result), (unsigned)opened);
+    print_sheet(stream, (size_t)(end - stream));
 
     report("the shelf's own plan",
            check_plan(sizes, entries, bins, entries, sizes, entries, CAPACITY,

@@ -1,4 +1,5 @@
-//! A panel's round: open a shelf, shelve, read the answers, check a plan.
+//! A panel's round: open a shelf, shelve, read the answers, print the vault
+//! sheet, check a plan.
 
 use shelf::{Answer, Command, Entry, StreamBuilder};
 
@@ -36,6 +37,7 @@ fn main() {
         }
     }
     println!("{} masters in {} cartridges", totals.items, totals.opened);
+    print!("{}", shelf::sheet(stream.bytes()).text());
 
     let items: Vec<u32> = plan.iter().map(|entry| entry.size).collect();
     match shelf::check_plan(&plan, &items, CAPACITY, totals.opened.into()) {

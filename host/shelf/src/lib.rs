@@ -1,5 +1,5 @@
 //! Safe calls into the proved shelving library: Refined First-Fit over a
-//! command stream, and the plan checker.
+//! command stream, the vault sheet of a stream, and the plan checker.
 //!
 //! Build a stream, lend it with a row of answer words, read the answers:
 //!
@@ -28,9 +28,11 @@
 
 mod refusals;
 mod results;
+mod sheet;
 mod stream;
 
 pub use refusals::{ItemRefusal, PlanFault, PlanRefusal, StreamFault, StreamRefusal};
+pub use sheet::{Row, Sheet};
 pub use stream::{answers, commands, Answer, Answers, Command, Commands, Opening, StreamBuilder};
 
 /// The largest capacity of a bin.
@@ -46,6 +48,10 @@ pub const MAX_COMMANDS: usize = 4_096;
 /// The most entries of a plan, the most items it is checked against, and the
 /// largest `k`.
 pub const MAX_ENTRIES: usize = 4_096;
+/// The longest stream that a sheet is made of, in bytes.
+pub const MAX_SHEET_STREAM: usize = 32_768;
+/// The most bytes of a sheet: a line of 41 for each of 512 bins and 11 pages.
+pub const SHEET_BYTES: usize = 21_443;
 
 mod ffi {
     extern "C" {
@@ -55,6 +61,8 @@ mod ffi {
             answers: *mut u16,
             answers_len: usize,
         ) -> u64;
+
+        pub fn shelf_sheet(stream: *const u8, stream_len: usize, sheet: *mut u8) -> u64;
 
         pub fn check_plan(
             sizes: *const u32,
@@ -115,6 +123,55 @@ pub fn shelve(stream: &[u8], answers: &mut [u16]) -> Result<Totals, StreamRefusa
     match results::of_stream(code) {
         Some(result) => result,
         None => panic!("shelve_stream returned {code:#x}, which its interface excludes"),
+    }
+}
+
+/// The vault sheet of a stream: what every opened bin holds once all of the
+/// stream is shelved, as text and as numbers.
+///
+/// ```
+/// use shelf::{Row, StreamBuilder};
+///
+/// let mut stream = StreamBuilder::open(60, 4, 6);
+/// stream.shelve(35).shelve(20).shelve(61).shelve(20);
+///
+/// let sheet = shelf::sheet(stream.bytes());
+/// let lines: Vec<&str> = sheet.text().lines().collect();
+/// assert_eq!(lines, [
+///     "PAGE   1                                ",
+///     "   1 1       35       25    1           ",
+///     "   2 4       40       20    2           ",
+/// ]);
+/// assert_eq!(sheet.rows()[1], Row { number: 2, class: 4, load: 40, free: 20, held: 2 });
+/// ```
+///
+/// A refused stream has no sheet: the text is then the one line that the
+/// program `shelve` prints, and there are no rows.
+///
+/// ```
+/// let sheet = shelf::sheet(&[0x03]);
+/// assert!(sheet.is_refused());
+/// assert_eq!((sheet.text(), sheet.rows()), ("X 1 0\n", &[][..]));
+/// ```
+pub fn sheet(stream: &[u8]) -> Sheet {
+    let mut bytes = Box::new([0; SHEET_BYTES]);
+    let len = write_sheet(stream, &mut bytes);
+    match Sheet::read(&bytes[..len]) {
+        Some(sheet) => sheet,
+        None => panic!("shelf_sheet wrote a text that its interface excludes"),
+    }
+}
+
+/// Writes the text of the vault sheet at the front of the lent bytes and
+/// returns its length; the bytes behind it are untouched.
+pub fn write_sheet(stream: &[u8], sheet: &mut [u8; SHEET_BYTES]) -> usize {
+    // SAFETY: the stream's pointer comes with its length, and `sheet` has the
+    // bytes that the library may write; it is borrowed mutably, so it overlaps
+    // nothing; the library keeps neither the pointers nor any state.
+    let len = unsafe { ffi::shelf_sheet(stream.as_ptr(), stream.len(), sheet.as_mut_ptr()) };
+    match usize::try_from(len) {
+        Ok(len) if len <= SHEET_BYTES => len,
+        _ => panic!("shelf_sheet returned {len:#x}, which its interface excludes"),
     }
 }
 
