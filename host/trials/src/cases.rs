@@ -5,9 +5,11 @@ use crate::compare::{by_library, by_paper, plan_by_library, verdict, Outcome};
 use crate::families::{self, Family};
 use crate::paper::{size_class, SizeClass, Totals};
 use crate::plans::PlanTrial;
+use crate::sheet_cases;
 use crate::streams::StreamTrial;
 use crate::wire::Command::{self, Count, Shelve};
 use crate::wire::{opening, refuse, refused_word as r, Opening, Refusal, Stream};
+use crate::written::difference;
 
 /// The opening of the streams that are refused for another fault.
 const OPEN: Opening = opening(60, 4, 6);
@@ -20,19 +22,25 @@ pub struct Cases {
 }
 
 impl Cases {
-    fn check(&mut self, name: &str, good: bool, seen: impl FnOnce() -> String) {
+    pub fn check(&mut self, name: &str, good: bool, seen: impl FnOnce() -> String) {
         self.tried += 1;
         if !good {
             self.failed.push(format!("{name}: {}", seen()));
         }
     }
 
-    /// A stream that comes to this on both sides, to the last word of the row
-    /// and around it.
+    /// What a stream comes to on one side, to the last word of the row and
+    /// around it, and to the last byte of the sheet.
+    fn outcome(&mut self, name: &str, side: &str, outcome: Outcome, expected: &Outcome) {
+        self.check(name, outcome == *expected, || {
+            let sheet = difference(&expected.sheet, &outcome.sheet);
+            format!("{side}: {outcome}; sheet, expected against this: {sheet}")
+        });
+    }
+
     fn both(&mut self, name: &str, trial: &StreamTrial, expected: &Outcome) {
-        for (side, outcome) in [("paper", by_paper(trial)), ("library", by_library(trial))] {
-            self.check(name, outcome == *expected, || format!("{side}: {outcome}"));
-        }
+        self.outcome(name, "paper", by_paper(trial), expected);
+        self.outcome(name, "library", by_library(trial), expected);
     }
 
     /// A stream that is accepted with these answer words and totals, the row
@@ -74,7 +82,7 @@ impl Cases {
     }
 }
 
-fn case(stream: Vec<u8>, lent: usize) -> StreamTrial {
+pub fn case(stream: Vec<u8>, lent: usize) -> StreamTrial {
     StreamTrial {
         kind: "case",
         stream,
@@ -83,7 +91,7 @@ fn case(stream: Vec<u8>, lent: usize) -> StreamTrial {
     }
 }
 
-fn sent(opening: Opening, commands: &[Command]) -> Vec<u8> {
+pub fn sent(opening: Opening, commands: &[Command]) -> Vec<u8> {
     let commands = commands.to_vec();
     Stream { opening, commands }.bytes()
 }
@@ -119,6 +127,7 @@ pub fn run() -> Cases {
     plan_limits(&mut cases);
     plan_entries(&mut cases);
     worst_lists(&mut cases);
+    sheet_cases::run(&mut cases);
     cases
 }
 
@@ -464,8 +473,7 @@ fn family(cases: &mut Cases, name: &str, m: u8, family: Family) {
     cases.check(name, paper.totals() == Some(totals), || {
         format!("paper: {paper}")
     });
-    let library = by_library(&trial);
-    cases.check(name, library == paper, || format!("library: {library}"));
+    cases.outcome(name, "library", by_library(&trial), &paper);
     let entries: Vec<(u32, u32)> = sizes.into_iter().zip(bins).collect();
     cases.plan(name, &own_plan(&entries, capacity, k), Ok(()));
     cases.check(name, 3 * opened <= 5 * k + 15, || {

@@ -7,8 +7,10 @@ use std::sync::atomic::{AtomicBool, Ordering};
 use crate::paper::{self, Totals};
 use crate::plans::PlanTrial;
 use crate::rng::Rng;
+use crate::sheet;
 use crate::streams::StreamTrial;
 use crate::wire::{self, Refusal};
+use crate::written::Written;
 
 /// Words before and after the lent row that no call may touch.
 const GUARD: usize = 8;
@@ -35,22 +37,24 @@ fn guarded<T>(call: impl FnOnce() -> T) -> Option<T> {
     result.ok()
 }
 
-/// What a stream came to: the result, and every word of the row with the words
-/// around it.
+/// What a stream came to: the result, every word of the row with the words
+/// around it, and the sheet.
 #[derive(Clone, PartialEq, Eq)]
 pub struct Outcome {
     result: Option<Result<Totals, Refusal>>,
     words: Vec<u16>,
+    pub sheet: Written,
 }
 
 impl Outcome {
     /// What a stream comes to with this result, these words of the row written
-    /// and all others untouched.
+    /// and all others untouched, and the paper's sheet.
     pub fn of(trial: &StreamTrial, result: Result<Totals, Refusal>, written: &[u16]) -> Self {
-        outcome(trial, |row| {
+        let answer = |row: &mut [u16]| {
             row[..written.len()].copy_from_slice(written);
             Some(result)
-        })
+        };
+        outcome(trial, answer, by_paper(trial).sheet)
     }
 
     /// What the stream returned, if it was accepted.
@@ -67,20 +71,32 @@ impl Outcome {
 fn outcome(
     trial: &StreamTrial,
     call: impl FnOnce(&mut [u16]) -> Option<Result<Totals, Refusal>>,
+    sheet: Written,
 ) -> Outcome {
     let mut fill = Rng::of_trial(trial.fill, 0);
     let mut words: Vec<u16> = Vec::new();
     words.resize_with(GUARD + trial.lent + GUARD, || fill.word() as u16);
     let result = call(&mut words[GUARD..GUARD + trial.lent]);
-    Outcome { result, words }
+    Outcome {
+        result,
+        words,
+        sheet,
+    }
 }
 
 pub fn by_paper(trial: &StreamTrial) -> Outcome {
-    outcome(trial, |row| Some(paper::shelve(&trial.stream, row)))
+    let stream = &trial.stream;
+    let shelved = paper::shelve(stream);
+    let sheet = Written::text(trial.fill, &sheet::sheet(stream, &shelved));
+    let answer = |row: &mut [u16]| Some(paper::answer(stream, &shelved, row));
+    outcome(trial, answer, sheet)
 }
 
 pub fn by_library(trial: &StreamTrial) -> Outcome {
-    outcome(trial, |row| {
+    let sheet = Written::by(trial.fill, |lent| {
+        guarded(|| shelf::write_sheet(&trial.stream, lent))
+    });
+    let answer = |row: &mut [u16]| {
         let result = guarded(|| shelf::shelve(&trial.stream, row))?;
         Some(match result {
             Ok(totals) => Ok(Totals {
@@ -92,7 +108,8 @@ pub fn by_library(trial: &StreamTrial) -> Outcome {
                 at: refusal.offset,
             }),
         })
-    })
+    };
+    outcome(trial, answer, sheet)
 }
 
 fn seen(refusal: shelf::PlanRefusal) -> Refusal {

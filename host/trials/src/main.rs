@@ -1,5 +1,5 @@
-//! Compares the library with [`paper`], a simple version written from the
-//! specification alone, over random streams and plans.
+//! Compares the library with [`paper`] and [`sheet`], a simple version written
+//! from the specification alone, over random streams and plans.
 //!
 //! `trials [--streams N] [--plans N] [--seed S]`. The first difference is made
 //! small and printed with both answers, and the exit status is 1.
@@ -12,9 +12,12 @@ mod lists;
 mod paper;
 mod plans;
 mod rng;
+mod sheet;
+mod sheet_cases;
 mod smaller;
 mod streams;
 mod wire;
+mod written;
 
 use std::process::ExitCode;
 use std::time::{Instant, SystemTime, UNIX_EPOCH};
@@ -161,7 +164,7 @@ fn try_stream(trial: StreamTrial, tally: &mut Tally) -> Result<(), String> {
 /// else at the end with the k of first-fit decreasing.
 fn worst_excess(trial: &StreamTrial, outcome: &Outcome, tally: &mut Tally) -> Option<i64> {
     let totals = outcome.totals()?;
-    let stream = Stream::read(&trial.stream, trial.lent).ok()?;
+    let stream = Stream::read(&trial.stream).ok()?;
     let capacity = stream.opening.capacity;
     let placed = stream.placed(outcome.row());
     let excess = |opened: usize, k: usize| 3 * opened as i64 - 5 * k as i64;

@@ -34,19 +34,34 @@ pub fn size_class(size: u64, capacity: u64) -> SizeClass {
     }
 }
 
-struct Bin {
-    class: u32,
-    items: Vec<u64>,
+pub struct Bin {
+    pub class: u32,
+    pub items: Vec<u64>,
 }
 
-struct Packing {
-    opening: Opening,
-    bins: Vec<Bin>,
+impl Bin {
+    pub fn load(&self) -> u64 {
+        self.items.iter().sum()
+    }
+}
+
+pub struct Packing {
+    pub opening: Opening,
+    pub bins: Vec<Bin>,
     b2_accepted: usize,
     accepted: usize,
 }
 
 impl Packing {
+    fn new(opening: Opening) -> Self {
+        Self {
+            opening,
+            bins: Vec::new(),
+            b2_accepted: 0,
+            accepted: 0,
+        }
+    }
+
     /// Places one item: the number of its bin, or the refusal's number.
     fn place(&mut self, size: u64) -> Result<usize, u16> {
         let capacity = self.opening.capacity.into();
@@ -66,12 +81,11 @@ impl Packing {
             SizeClass::X => 4,
         };
         let permitted = |bin: &Bin| {
-            let load: u64 = bin.items.iter().sum();
             let holds_an_a = || {
                 let mut classes = bin.items.iter().map(|&item| size_class(item, capacity));
                 classes.any(|class| class == SizeClass::A)
             };
-            bin.class == class && load + size <= capacity && (!beside_an_a || holds_an_a())
+            bin.class == class && bin.load() + size <= capacity && (!beside_an_a || holds_an_a())
         };
         let place = match self.bins.iter().position(permitted) {
             Some(place) => place,
@@ -89,26 +103,49 @@ impl Packing {
         }
         Ok(place + 1)
     }
-}
 
-/// Shelves a stream, writing the answer words into the lent row.
-pub fn shelve(stream: &[u8], answers: &mut [u16]) -> Result<Totals, Refusal> {
-    let Stream { opening, commands } = Stream::read(stream, answers.len())?;
-    let mut packing = Packing {
-        opening,
-        bins: Vec::new(),
-        b2_accepted: 0,
-        accepted: 0,
-    };
-    for (word, command) in answers.iter_mut().zip(commands) {
-        *word = match command {
-            Command::Count => packing.bins.len() as u16,
-            Command::Shelve(size) => match packing.place(size.into()) {
+    /// Does what a command asks; the answer word.
+    fn answer(&mut self, command: Command) -> u16 {
+        match command {
+            Command::Count => self.bins.len() as u16,
+            Command::Shelve(size) => match self.place(size.into()) {
                 Ok(bin) => bin as u16,
                 Err(number) => refused_word(number),
             },
-        };
+        }
     }
+}
+
+/// What is made of a stream without a fault: the answer words, and the packing
+/// that it leaves.
+pub struct Shelved {
+    words: Vec<u16>,
+    pub packing: Packing,
+}
+
+/// Shelves a stream, whatever row is lent with it: any refusal but 7.
+pub fn shelve(stream: &[u8]) -> Result<Shelved, Refusal> {
+    let Stream { opening, commands } = Stream::read(stream)?;
+    let mut packing = Packing::new(opening);
+    let words = commands.into_iter().map(|command| packing.answer(command));
+    Ok(Shelved {
+        words: words.collect(),
+        packing,
+    })
+}
+
+/// Gives the answers of a stream to the row that is lent with it. Refusal 7
+/// comes last.
+pub fn answer(
+    stream: &[u8],
+    shelved: &Result<Shelved, Refusal>,
+    answers: &mut [u16],
+) -> Result<Totals, Refusal> {
+    let Shelved { words, packing } = shelved.as_ref().map_err(|refusal| *refusal)?;
+    if answers.len() < words.len() {
+        return refuse(7, stream.len());
+    }
+    answers[..words.len()].copy_from_slice(words);
     Ok(Totals {
         items: packing.accepted,
         opened: packing.bins.len(),

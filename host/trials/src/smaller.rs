@@ -6,6 +6,7 @@ use crate::compare::{by_library, by_paper, differing_word, plan_by_library, verd
 use crate::plans::PlanTrial;
 use crate::streams::StreamTrial;
 use crate::wire::{self, opening, Command, Opening, Part, LEAST_M};
+use crate::written::difference;
 
 /// Follows smaller trials that still fail, until none does or time is up.
 fn shrink<T>(
@@ -155,11 +156,13 @@ pub fn show_stream(trial: StreamTrial, fails: impl Fn(&StreamTrial) -> bool) -> 
         .map(|part| hex(&part.bytes()))
         .collect();
     format!(
-        "stream, {} bytes, {} words lent:\n  {}\npaper:   {paper}\nlibrary: {library}\n{}",
+        "stream, {} bytes, {} words lent:\n  {}\npaper:   {paper}\nlibrary: {library}\n{}\n\
+         sheet, paper against library: {}",
         trial.stream.len(),
         trial.lent,
         hex.join(" "),
         differing_word(&paper, &library),
+        difference(&paper.sheet, &library.sheet),
     )
 }
 

@@ -2,7 +2,9 @@
 
 use crate::lists::{b2_run, family, list, long, random_opening, short_list};
 use crate::rng::Rng;
-use crate::wire::{Command, LEAST_M, MOST_CAPACITY, MOST_COMMANDS, MOST_M, MOST_STOCK};
+use crate::wire::{
+    Command, LEAST_M, MOST_CAPACITY, MOST_COMMANDS, MOST_M, MOST_PRINTED, MOST_STOCK,
+};
 
 /// A stream and the row lent with it.
 #[derive(Clone)]
@@ -25,6 +27,7 @@ pub fn random(rng: &mut Rng) -> StreamTrial {
         67..=71 => ("noise", vec![noise(rng)]),
         72..=75 => ("opening", damaged_opening(rng)),
         76..=78 => ("at the limit of commands", around_the_limit(rng)),
+        79 => ("at the limit of bytes", vec![around_the_longest(rng)]),
         _ => ("damaged", damaged(rng)),
     };
     let after = pieces.len().saturating_sub(1);
@@ -107,6 +110,13 @@ fn around_the_limit(rng: &mut Rng) -> Vec<Vec<u8>> {
         damage(rng, &mut pieces);
     }
     pieces
+}
+
+/// About as many bytes as are printed at most, a fault among them.
+fn around_the_longest(rng: &mut Rng) -> Vec<u8> {
+    let mut bytes = list(rng, 20).bytes();
+    bytes.resize(MOST_PRINTED - 2 + rng.place(5), rng.pick(&[0, 1, 2, 3]));
+    bytes
 }
 
 /// What a faulty command looks like.

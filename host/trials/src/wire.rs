@@ -16,6 +16,8 @@ pub const LEAST_M: u8 = 6;
 pub const MOST_M: u8 = 9;
 /// The most commands after the opening.
 pub const MOST_COMMANDS: usize = 4096;
+/// The most bytes of a stream that is printed, as answers or as a sheet.
+pub const MOST_PRINTED: usize = 32_768;
 
 /// Added to a refusal's number in an answer word.
 const REFUSED: u16 = 32_768;
@@ -110,9 +112,8 @@ impl Stream {
         placed.collect()
     }
 
-    /// Reads a stream that is sent with so many answer words, or finds the
-    /// refusal: of the first faulty command, or 7 if there is none.
-    pub fn read(bytes: &[u8], words: usize) -> Result<Self, Refusal> {
+    /// Reads a stream, or finds the refusal of its first faulty command.
+    pub fn read(bytes: &[u8]) -> Result<Self, Refusal> {
         let mut parts = parts(bytes);
         let opening = match parts.next() {
             Some((_, Part::Opening(opening))) if opening.within_limits() => opening,
@@ -131,9 +132,6 @@ impl Stream {
                 Part::Opening(_) | Part::CutShort([OPEN, ..]) => return refuse(4, offset),
                 Part::CutShort(_) => return refuse(3, offset),
             }
-        }
-        if words < commands.len() {
-            return refuse(7, bytes.len());
         }
         Ok(Self { opening, commands })
     }
@@ -218,8 +216,8 @@ mod tests {
             commands: vec![Command::Shelve(35), Command::Count],
         };
         assert_eq!(stream.bytes(), SAMPLE);
-        assert_eq!(Stream::read(&SAMPLE, 2), Ok(stream));
-        assert_eq!(Stream::read(&SAMPLE, 1), refuse(7, 14));
+        assert_eq!(Stream::read(&SAMPLE), Ok(stream));
+        assert_eq!(Stream::read(&SAMPLE[..12]), refuse(3, 8));
     }
 
     #[test]

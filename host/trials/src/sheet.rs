@@ -1,0 +1,49 @@
+//! The vault sheet in plain Rust, written from the request's text alone and
+//! sharing nothing with the library or its wrapper: lines put together from the
+//! bins of [`paper`](crate::paper).
+
+use crate::paper::{Bin, Packing, Shelved};
+use crate::wire::{Refusal, MOST_PRINTED, MOST_STOCK};
+
+const LINE: usize = 40;
+const LINES_A_PAGE: usize = 50;
+/// The longest sheet: every bin of the largest stock, and the pages it takes.
+pub const MOST_BYTES: usize = {
+    let bins = MOST_STOCK as usize;
+    (LINE + 1) * (bins + bins.div_ceil(LINES_A_PAGE))
+};
+
+/// What is printed of a stream: its sheet, or the line of one that is refused.
+pub fn sheet(stream: &[u8], shelved: &Result<Shelved, Refusal>) -> String {
+    if stream.len() > MOST_PRINTED {
+        return format!("L {MOST_PRINTED}\n");
+    }
+    match shelved {
+        Err(Refusal { number, at }) => format!("X {number} {at}\n"),
+        Ok(shelved) => pages(&shelved.packing),
+    }
+}
+
+fn pages(packing: &Packing) -> String {
+    let capacity = packing.opening.capacity.into();
+    let numbered: Vec<(usize, &Bin)> = (1..).zip(&packing.bins).collect();
+    let mut sheet = String::new();
+    for (page, bins) in (1..).zip(numbered.chunks(LINES_A_PAGE)) {
+        sheet += &line(&format!("PAGE {page:>3}"));
+        for (number, bin) in bins {
+            sheet += &line(&cartridge(*number, bin, capacity));
+        }
+    }
+    sheet
+}
+
+fn cartridge(number: usize, bin: &Bin, capacity: u64) -> String {
+    let (class, load, held) = (bin.class, bin.load(), bin.items.len());
+    let free = capacity - load;
+    format!("{number:>4} {class} {load:>8} {free:>8} {held:>4}")
+}
+
+/// Spaces fill the line up.
+fn line(text: &str) -> String {
+    format!("{text:<LINE$}\n")
+}
