@@ -1,10 +1,17 @@
-//! The same algorithm by hand: tournament trees in safe Rust.
+//! The same algorithm by hand: tournament trees in safe Rust, and beside them a
+//! row of figures for each bin, as a vault sheet needs them.
+
+use std::hint::black_box;
 
 /// Five trees of up to 512 leaves, the root at 1 and the leaves from `leaves`
 /// up. Trees 1 to 4 hold the free space of the bins of a class, tree 0 that of
 /// the bins with an A item. Everything else stands at 0, where nothing fits.
 type Trees = [Tree; 5];
 type Tree = [u32; 2 * MAX_LEAVES];
+
+/// What is known of each bin: its class, 0 where it is not opened, its free
+/// space, the items that it holds, and how many of these are A.
+type Rows = [[u32; 4]; MAX_LEAVES];
 
 const MAX_LEAVES: usize = 512;
 const WITH_A: usize = 0;
@@ -36,6 +43,24 @@ fn store(tree: &mut Tree, leaf: usize, free: u32) {
         }
         tree[node] = largest;
     }
+}
+
+/// Enters an item in the row of its bin, and tells the A items held then.
+#[inline(always)]
+fn enter(rows: &mut Rows, place: usize, class: u32, free: u32, a: u32) -> u32 {
+    // The mask changes nothing, and spares a check of bounds.
+    let row = &mut rows[place % MAX_LEAVES];
+    let [_, _, held, held_a] = *row;
+    *row = [class, free, held + 1, held_a + a];
+    held_a + a
+}
+
+/// Shows the free space of a bin of class 1 in the tree of its class, and in
+/// that of the bins with an A if it holds one.
+#[inline(always)]
+fn show_class_1(trees: &mut Trees, leaf: usize, free: u32, held_a: u32) {
+    store(&mut trees[1], leaf, free);
+    store(&mut trees[WITH_A], leaf, if held_a > 0 { free } else { 0 });
 }
 
 struct Opening {
@@ -88,6 +113,15 @@ fn read(stream: &[u8]) -> Result<(Opening, usize), u64> {
 
 /// The packed result is that of the library's C interface.
 pub fn shelve(stream: &[u8], answers: &mut [u16]) -> u64 {
+    let mut rows: Rows = [[0; 4]; MAX_LEAVES];
+    let result = shelve_and_enter(stream, answers, &mut rows);
+    // Not all of the figures are read again, but all are to be written.
+    black_box(&rows);
+    result
+}
+
+/// Shelves, and enters each item in the rows, which are all 0 before.
+fn shelve_and_enter(stream: &[u8], answers: &mut [u16], rows: &mut Rows) -> u64 {
     let (opening, commands) = match read(stream) {
         Ok(read) => read,
         Err(refused) => return refused,
@@ -136,8 +170,7 @@ pub fn shelve(stream: &[u8], answers: &mut [u16]) -> u64 {
         } else {
             WITH_A
         };
-        let found = trees[tree][1] >= size;
-        let (leaf, free) = if found {
+        let (leaf, free) = if trees[tree][1] >= size {
             let leaf = find(&trees[tree], leaves, size);
             (leaf, trees[tree][leaf % (2 * MAX_LEAVES)] - size)
         } else if opened < stock {
@@ -147,26 +180,58 @@ pub fn shelve(stream: &[u8], answers: &mut [u16]) -> u64 {
             *word = 0x8000 + 10;
             continue;
         };
+        let place = leaf - leaves;
         match tree {
             WITH_A => {
-                if found {
-                    store(&mut trees[WITH_A], leaf, free);
-                }
-                store(&mut trees[1], leaf, free);
+                let held_a = enter(rows, place, 1, free, 0);
+                show_class_1(&mut trees, leaf, free, held_a);
                 to_next_m = m;
             }
             1 => {
-                store(&mut trees[WITH_A], leaf, free);
-                store(&mut trees[1], leaf, free);
+                let held_a = enter(rows, place, 1, free, 1);
+                show_class_1(&mut trees, leaf, free, held_a);
             }
             3 => {
+                enter(rows, place, 3, free, 0);
                 store(&mut trees[3], leaf, free);
                 to_next_m -= 1;
             }
-            _ => store(&mut trees[tree], leaf, free),
+            _ => {
+                enter(rows, place, tree as u32, free, 0);
+                store(&mut trees[tree], leaf, free);
+            }
         }
         accepted += 1;
-        *word = (leaf - leaves + 1) as u16;
+        *word = (place + 1) as u16;
     }
     accepted << 16 | opened as u64
+}
+
+#[cfg(test)]
+mod tests {
+    use super::*;
+    use crate::mixes::MIXES;
+    use shelf::{Answer, Command, Opening};
+
+    #[test]
+    fn the_rows_are_those_of_the_sheet() {
+        for mix in &MIXES {
+            let stream = mix.stream(1);
+            let mut words = stream.answer_row();
+            let mut rows = [[0; 4]; MAX_LEAVES];
+            shelve_and_enter(stream.bytes(), &mut words, &mut rows);
+
+            let capacity = Opening::read(stream.bytes()).unwrap().capacity;
+            let mut expected = [[0; 4]; MAX_LEAVES];
+            for (expected, row) in expected.iter_mut().zip(shelf::sheet(stream.bytes()).rows()) {
+                *expected = [row.class.into(), row.free, row.held.into(), 0];
+            }
+            for answered in shelf::answers(stream.bytes(), &words) {
+                if let (Command::Shelve { size }, Answer::Placed { bin }) = answered {
+                    expected[usize::from(bin) - 1][3] += u32::from(2 * size > capacity);
+                }
+            }
+            assert_eq!(rows, expected, "{}", mix.name);
+        }
+    }
 }
