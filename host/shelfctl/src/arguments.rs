@@ -37,6 +37,8 @@ pub struct Shelve {
     pub input: Place,
     /// `None` leaves it to the input's name and content.
     pub format: Option<Format>,
+    /// Whether to print the vault sheet, and nothing else.
+    pub sheet: bool,
     pub draw: bool,
     pub list: bool,
     pub json: bool,
@@ -46,8 +48,11 @@ pub struct Shelve {
 }
 
 impl Shelve {
-    /// Standard output holds one thing: lines, JSON or a picture.
+    /// Standard output holds one thing: lines, a sheet, JSON or a picture.
     fn fits_the_output(&self) -> Result<(), String> {
+        if self.sheet && (self.draw || self.list || self.json || self.svg.is_some()) {
+            return Err("--sheet prints the vault sheet and nothing else".to_string());
+        }
         let picture = self.svg == Some(Place::Standard);
         if picture && (self.draw || self.list || self.json) {
             return Err("--svg - prints the picture and nothing else".to_string());
@@ -68,6 +73,7 @@ pub fn parse(arguments: impl Iterator<Item = OsString>) -> Result<Action, String
     let mut shelve = Shelve {
         input: Place::Standard,
         format: None,
+        sheet: false,
         draw: false,
         list: false,
         json: false,
@@ -82,6 +88,7 @@ pub fn parse(arguments: impl Iterator<Item = OsString>) -> Result<Action, String
             Some("--text") => set_format(&mut shelve, Format::Text)?,
             Some("--hex") => set_format(&mut shelve, Format::Hex)?,
             Some("--raw") => set_format(&mut shelve, Format::Raw)?,
+            Some("--sheet") => shelve.sheet = true,
             Some("--draw") => shelve.draw = true,
             Some("--list") => shelve.list = true,
             Some("--json") => shelve.json = true,
@@ -183,6 +190,7 @@ mod tests {
         assert_eq!(shelve("--svg=-").svg, Some(Place::Standard));
         assert_eq!(shelve("--hex check").input, file("check"));
         assert_eq!(shelve("--hex a").format, Some(Format::Hex));
+        assert!(shelve("--sheet --hex a").sheet);
         assert_eq!(parsed("check p"), Ok(Action::Check(file("p"))));
         assert_eq!(parsed("check -- -p"), Ok(Action::Check(file("-p"))));
         assert_eq!(parsed("check"), Ok(Action::Check(Place::Standard)));
@@ -205,6 +213,11 @@ mod tests {
             "--svg - --list",
             "--svg=- --json",
             "--json --draw",
+            "--sheet --draw",
+            "--list --sheet",
+            "--sheet --json",
+            "--sheet --svg p.svg",
+            "--sheet --svg -",
             "--hex --raw",
             "check a b",
             "check --draw a",

@@ -2,9 +2,9 @@
 
 use std::fmt::{self, Write};
 
-use shelf::Opening;
+use shelf::{Opening, Row};
 
-use crate::packing::{Bin, Packing, SizeClass};
+use crate::packing::{Bin, Packing};
 
 const COLUMNS: usize = 80;
 /// Columns before the bar, and those of the bar within its frame.
@@ -28,31 +28,38 @@ impl fmt::Display for Drawing<'_> {
         if packing.bins.is_empty() {
             return Ok(());
         }
-        let legend = SizeClass::ALL.map(|class| format!("{} {}", shade(class), class.name()));
+        let legend = [1, 2, 3, 4].map(|class| format!("{} class {class}", shade(class)));
         writeln!(f, "\n   no class     load     free   {}", legend.join("  "))?;
-        for (number, bin) in (1..).zip(&packing.bins) {
-            let load = bin.load();
-            let free = capacity - load;
+        for bin in &packing.bins {
+            let Row {
+                number,
+                class,
+                load,
+                free,
+                ..
+            } = bin.row;
             let bar = bar(bin, capacity);
-            writeln!(f, "{number:>5}{:>6}{load:>9}{free:>9} │{bar}│", bin.class)?;
+            writeln!(f, "{number:>5}{class:>6}{load:>9}{free:>9} │{bar}│")?;
             write_items(f, bin)?;
         }
         Ok(())
     }
 }
 
-fn shade(class: SizeClass) -> char {
+/// The shade of a cartridge's masters, by the cartridge's class.
+fn shade(class: u8) -> char {
     match class {
-        SizeClass::A => '█',
-        SizeClass::B1 => '▓',
-        SizeClass::B2 => '▒',
-        SizeClass::X => '░',
+        1 => '█',
+        2 => '▓',
+        3 => '▒',
+        _ => '░',
     }
 }
 
 /// The items from left to right, each as long as its share of the capacity.
 fn bar(bin: &Bin, capacity: u32) -> String {
     let cells = |units: u64| (units * BAR as u64 / u64::from(capacity)) as usize;
+    let shade = shade(bin.row.class);
     let mut bar = String::new();
     let mut end = 0;
     let mut drawn = 0;
@@ -61,7 +68,7 @@ fn bar(bin: &Bin, capacity: u32) -> String {
         for cell in drawn..cells(end) {
             // A line parts an item from the one before, where there is room.
             let parts = cell == drawn && drawn > 0 && cells(end) - drawn > 1;
-            bar.push(if parts { '│' } else { shade(item.class) });
+            bar.push(if parts { '│' } else { shade });
         }
         drawn = cells(end);
     }

@@ -2,7 +2,7 @@
 
 use std::fmt::Write;
 
-use shelf::{Answer, Command, Opening};
+use shelf::{Answer, Command, Opening, Row};
 
 use crate::outcome::{Outcome, Shelved};
 use crate::packing::Packing;
@@ -64,13 +64,18 @@ fn answer(number: usize, (command, answer): (Command, Answer)) -> String {
 }
 
 fn cartridges(packing: &Packing) -> String {
-    array((1..).zip(&packing.bins).map(|(number, bin): (usize, _)| {
-        let (class, load) = (bin.class, bin.load());
-        let free = packing.opening.capacity - load;
+    array(packing.bins.iter().map(|bin| {
+        let Row {
+            number,
+            class,
+            load,
+            free,
+            held,
+        } = bin.row;
         let commands: Vec<usize> = bin.commands().collect();
         format!(
             "{{\"number\": {number}, \"class\": {class}, \"load\": {load}, \"free\": {free}, \
-             \"commands\": {commands:?}}}"
+             \"held\": {held}, \"commands\": {commands:?}}}"
         )
     }))
 }
@@ -125,7 +130,7 @@ mod tests {
 ],
 "totals": {"masters": 1, "cartridges": 1},
 "cartridges": [
-{"number": 1, "class": 1, "load": 35, "free": 25, "commands": [1]}
+{"number": 1, "class": 1, "load": 35, "free": 25, "held": 1, "commands": [1]}
 ]
 }
 "#;

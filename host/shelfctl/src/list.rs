@@ -2,22 +2,28 @@
 
 use std::fmt;
 
+use shelf::Row;
+
 use crate::packing::Packing;
 
 pub struct List<'a>(pub &'a Packing);
 
 impl fmt::Display for List<'_> {
     fn fmt(&self, f: &mut fmt::Formatter<'_>) -> fmt::Result {
-        writeln!(f, "   no class     load     free  commands")?;
-        for (number, bin) in (1..).zip(&self.0.bins) {
-            let load = bin.load();
-            let free = self.0.opening.capacity - load;
+        writeln!(f, "   no class     load     free  held  commands")?;
+        for bin in &self.0.bins {
+            let Row {
+                number,
+                class,
+                load,
+                free,
+                held,
+            } = bin.row;
             let commands: Vec<String> = bin.commands().map(|n| n.to_string()).collect();
             let commands = commands.join(" ");
             writeln!(
                 f,
-                "{number:>5}{:>6}{load:>9}{free:>9}  {commands}",
-                bin.class
+                "{number:>5}{class:>6}{load:>9}{free:>9}{held:>6}  {commands}"
             )?;
         }
         Ok(())

@@ -77,7 +77,9 @@ fn write(
     outcome: &Outcome,
     sentences: &[String],
 ) -> Result<(), Failure> {
-    if shelve.json {
+    if shelve.sheet {
+        print(shelf::sheet(&source.bytes).text())?;
+    } else if shelve.json {
         print(&json::object(source, outcome, sentences))?;
     } else if let (Outcome::Shelved(shelved), Some(Place::Standard)) = (outcome, &shelve.svg) {
         print(&picture(shelved))?;

@@ -1,58 +1,21 @@
-//! The shelf after a stream, rebuilt from the sizes and the answers.
+//! The shelf after a stream: what its sheet says of each cartridge, and the
+//! masters that the answers put there.
 
-use shelf::{Answer, Command, Opening};
-
-#[derive(Debug, Clone, Copy, PartialEq, Eq)]
-pub enum SizeClass {
-    A,
-    B1,
-    B2,
-    X,
-}
-
-impl SizeClass {
-    pub const ALL: [SizeClass; 4] = [Self::A, Self::B1, Self::B2, Self::X];
-
-    fn of(size: u32, capacity: u32) -> Self {
-        let (size, capacity) = (u64::from(size), u64::from(capacity));
-        if 2 * size > capacity {
-            Self::A
-        } else if 5 * size > 2 * capacity {
-            Self::B1
-        } else if 3 * size > capacity {
-            Self::B2
-        } else {
-            Self::X
-        }
-    }
-
-    pub fn name(self) -> &'static str {
-        match self {
-            Self::A => "A",
-            Self::B1 => "B1",
-            Self::B2 => "B2",
-            Self::X => "X",
-        }
-    }
-}
+use shelf::{Answer, Command, Opening, Row};
 
 pub struct Item {
     /// The number of the command that shelved it.
     pub command: usize,
     pub size: u32,
-    pub class: SizeClass,
 }
 
 pub struct Bin {
-    pub class: u8,
+    /// Its line of the sheet.
+    pub row: Row,
     pub items: Vec<Item>,
 }
 
 impl Bin {
-    pub fn load(&self) -> u32 {
-        self.items.iter().map(|item| item.size).sum()
-    }
-
     /// The numbers of the commands that its items came with.
     pub fn commands(&self) -> impl Iterator<Item = usize> + '_ {
         self.items.iter().map(|item| item.command)
@@ -70,55 +33,63 @@ impl Packing {
     /// The packing that an accepted stream left.
     pub fn of(stream: &[u8], words: &[u16]) -> Self {
         let opening = Opening::read(stream).expect("an accepted stream has an opening");
-        let mut bins: Vec<Bin> = Vec::new();
-        let mut refused = 0;
-        let mut b2_accepted = 0;
-        for (number, answered) in (1..).zip(shelf::answers(stream, words)) {
-            let (size, bin) = match answered {
-                (Command::Shelve { size }, Answer::Placed { bin }) => (size, bin),
-                (_, Answer::Refused(_)) => {
-                    refused += 1;
-                    continue;
-                }
-                _ => continue,
-            };
-            let class = SizeClass::of(size, opening.capacity);
-            b2_accepted += usize::from(class == SizeClass::B2);
-            // A bin has the class that its first item called for.
-            if usize::from(bin) > bins.len() {
-                let class = match class {
-                    SizeClass::A => 1,
-                    SizeClass::B1 => 2,
-                    SizeClass::B2 if b2_accepted % usize::from(opening.m) == 0 => 1,
-                    SizeClass::B2 => 3,
-                    SizeClass::X => 4,
-                };
-                let items = Vec::new();
-                bins.push(Bin { class, items });
-            }
-            bins[usize::from(bin) - 1].items.push(Item {
-                command: number,
-                size,
-                class,
-            });
-        }
-        Self {
+        let sheet = shelf::sheet(stream);
+        let bin = |&row: &Row| Bin {
+            row,
+            items: Vec::new(),
+        };
+        let mut packing = Self {
             opening,
-            bins,
-            refused,
+            bins: sheet.rows().iter().map(bin).collect(),
+            refused: 0,
+        };
+        for (command, answered) in (1..).zip(shelf::answers(stream, words)) {
+            match answered {
+                (Command::Shelve { size }, Answer::Placed { bin }) => {
+                    let bin = &mut packing.bins[usize::from(bin) - 1];
+                    bin.items.push(Item { command, size });
+                }
+                (_, Answer::Refused(_)) => packing.refused += 1,
+                _ => {}
+            }
         }
+        packing
     }
 
     pub fn items(&self) -> usize {
-        self.bins.iter().map(|bin| bin.items.len()).sum()
+        self.bins.iter().map(|bin| usize::from(bin.row.held)).sum()
     }
 
     /// The units in use over all opened bins, and those they have.
     pub fn units(&self) -> (u64, u64) {
-        let used = self.bins.iter().map(|bin| u64::from(bin.load())).sum();
+        let used = self.bins.iter().map(|bin| u64::from(bin.row.load)).sum();
         (
             used,
             u64::from(self.opening.capacity) * self.bins.len() as u64,
         )
+    }
+}
+
+#[cfg(test)]
+mod tests {
+    use super::*;
+
+    #[test]
+    fn the_masters_of_a_cartridge_are_those_of_its_row() {
+        let mut stream = shelf::StreamBuilder::open(1_000, 90, 7);
+        for i in 0..600 {
+            stream.shelve(i * 37 % 1_010).count();
+        }
+        let mut words = stream.answer_row();
+        let totals = shelf::shelve(stream.bytes(), &mut words).unwrap();
+        let packing = Packing::of(stream.bytes(), &words);
+        assert_eq!(packing.bins.len(), usize::from(totals.opened));
+        assert_eq!(packing.items(), usize::from(totals.items));
+        assert_eq!(packing.items() + packing.refused, 600);
+        for (number, Bin { row, items }) in (1..).zip(&packing.bins) {
+            assert_eq!(row.number, number);
+            assert_eq!(usize::from(row.held), items.len());
+            assert_eq!(row.load, items.iter().map(|item| item.size).sum());
+        }
     }
 }

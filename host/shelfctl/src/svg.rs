@@ -2,7 +2,9 @@
 
 use std::fmt::{self, Write};
 
-use crate::packing::{Bin, Packing, SizeClass};
+use shelf::Row;
+
+use crate::packing::{Bin, Packing};
 
 const ROW: u32 = 34;
 const BAR_HEIGHT: u32 = 22;
@@ -26,12 +28,13 @@ text { font-family: 'Helvetica Neue', Helvetica, Arial, sans-serif; fill: #22303
 .marked { font-size: 10px; text-anchor: middle; fill: #87939d; }
 ";
 
-fn colour(class: SizeClass) -> &'static str {
+/// The colour of a cartridge's masters, by the cartridge's class.
+fn colour(class: u8) -> &'static str {
     match class {
-        SizeClass::A => "#2c5f8a",
-        SizeClass::B1 => "#2f8f83",
-        SizeClass::B2 => "#c9822b",
-        SizeClass::X => "#8a78b5",
+        1 => "#2c5f8a",
+        2 => "#2f8f83",
+        3 => "#c9822b",
+        _ => "#8a78b5",
     }
 }
 
@@ -120,15 +123,15 @@ fn header(f: &mut fmt::Formatter<'_>, packing: &Packing) -> fmt::Result {
         opening.capacity, opening.stock, opening.m, packing.refused,
     )?;
     let mut x = MARGIN;
-    for class in SizeClass::ALL {
-        let (colour, name) = (colour(class), class.name());
+    for class in 1..=4 {
+        let colour = colour(class);
         writeln!(
             f,
             "<rect x=\"{x}\" y=\"82\" width=\"12\" height=\"12\" rx=\"3\" fill=\"{colour}\"/>\
-             <text class=\"note\" x=\"{}\" y=\"92\">{name}</text>",
+             <text class=\"note\" x=\"{}\" y=\"92\">class {class}</text>",
             x + 18,
         )?;
-        x += 52;
+        x += 76;
     }
     writeln!(
         f,
@@ -166,16 +169,19 @@ fn row(
     let (left, top) = layout.corner(index);
     let bar = layout.bar;
     let middle = top + BAR_HEIGHT / 2 + 4;
-    let load = bin.load();
-    let free = packing.opening.capacity - load;
+    let Row {
+        number,
+        class,
+        load,
+        free,
+        ..
+    } = bin.row;
     writeln!(
         f,
-        "<text class=\"number\" x=\"{}\" y=\"{middle}\">{}</text>\
-         <text class=\"class\" x=\"{}\" y=\"{middle}\">class {}</text>",
+        "<text class=\"number\" x=\"{}\" y=\"{middle}\">{number}</text>\
+         <text class=\"class\" x=\"{}\" y=\"{middle}\">class {class}</text>",
         left - 48,
-        index + 1,
         left - 24,
-        bin.class,
     )?;
     writeln!(
         f,
@@ -201,11 +207,10 @@ fn row(
         }
         writeln!(
             f,
-            "<g><title>command {}: {size} units, {}</title><rect x=\"{x:.2}\" y=\"{top}\" \
+            "<g><title>command {}: {size} units</title><rect x=\"{x:.2}\" y=\"{top}\" \
              width=\"{shown:.2}\" height=\"{BAR_HEIGHT}\" rx=\"{radius}\" fill=\"{}\"/>{label}</g>",
             item.command,
-            item.class.name(),
-            colour(item.class),
+            colour(class),
         )?;
         start += item.size;
     }
