@@ -1,6 +1,7 @@
 // "What the shelf consists of": tests of document 01's limits.
 use packing::Opening;
 ghost use mathlib.Core.Path.{_≡_};
+ghost use Prim.Native.Nat.{min};
 ghost use Rattle.packing.specs.Limits.{within, openingGood};
 
 // The most of a capacity, of commands after the opening, and of the rows of a plan and its k.
@@ -34,4 +35,11 @@ pub fn opening_good(o: Opening) -> bool
         return false;
     }
     false
+}
+
+// The length of the shorter of two rows.
+pub fn shorter(a: usize, b: usize) -> usize
+    ensures { λ r. ⌜ r ≡ min a b ⌝ }
+{
+    if a < b { a } else { b }
 }

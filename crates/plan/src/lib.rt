@@ -53,6 +53,6 @@ pub fn check_held_plan(plan: HeldPlan, items: &[u32], capacity: u32, k: u32) -> 
     ensures exact { λ r. ⌜ Exact capacity k (take (plan .len) (plan .entries)) (now (items .entry)) r ⌝ }
 {
     let entries = plan.entries;
-    let len = plan_limits::shorter(plan.len, HELD);
+    let len = limits::shorter(plan.len, HELD);
     check_plan(&entries[..len], items, capacity, k)
 }

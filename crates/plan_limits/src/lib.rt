@@ -6,14 +6,7 @@ use packing::PlanReason;
 use packing::PlanResult;
 ghost use mathlib.Core.Path.{_≡_};
 ghost use mathlib.Core.List.{[], _∷_};
-ghost use Prim.Native.Nat.{min};
 ghost use Rattle.packing.specs.Plans.{lengthsGood, limits};
-
-pub fn shorter(a: usize, b: usize) -> usize
-    ensures { λ r. ⌜ r ≡ min a b ⌝ }
-{
-    if a < b { a } else { b }
-}
 
 // What 12 asks: neither k nor a length is above the most.
 fn lengths_good(k: usize, rows: usize, items: usize) -> bool
@@ -52,7 +45,7 @@ pub fn check_limits(capacity: u32, k: u32, rows: usize, items: usize) -> PlanRes
     if rows == items {
         return PlanResult::Passed;
     }
-    let least = shorter(rows, items);
+    let least = limits::shorter(rows, items);
     let place = least + 1;
     PlanResult::Refused {
         reason: PlanReason::OtherItems,

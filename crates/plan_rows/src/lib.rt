@@ -79,7 +79,7 @@ fn check_entries(sizes: &[u32], bins: &[u32], items: &[u32], capacity: u32, k: u
 pub fn check_rows(sizes: &[u32], bins: &[u32], items: &[u32], capacity: u32, k: u32) -> PlanResult
     ensures { λ r. ⌜ r ≡ check capacity k (planOf (now (sizes .entry)) (now (bins .entry))) (now (items .entry)) ⌝ }
 {
-    let rows = plan_limits::shorter(sizes.len(), bins.len());
+    let rows = limits::shorter(sizes.len(), bins.len());
     let limited = plan_limits::check_limits(capacity, k, rows, items.len());
     let PlanResult::Passed = limited else {
         return limited;

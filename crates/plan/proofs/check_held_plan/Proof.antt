@@ -24,9 +24,9 @@ use Rattle.packing.proofs.Entry.Laws as P′
 use Rattle.packing.proofs.PlanResult as D
 use Rattle.plan.proofs.HeldPlan as R
 use Rattle.plan.proofs.HeldPlan.Laws as R′
-use Rattle.plan_limits.proofs.shorter as shorter
-use Rattle.plan_limits.proofs.shorter.Symbol as shorter-def
-use Rattle.plan_limits.proofs.shorter.Met as shorter-thm
+use Rattle.limits.proofs.shorter as shorter
+use Rattle.limits.proofs.shorter.Symbol as shorter-def
+use Rattle.limits.proofs.shorter.Met as shorter-thm
 use Rattle.plan.proofs.Locals.{locals, takes, homes, cell, puts, var, vars, sets, lays, freed, allocated}
 use Rattle.plan.proofs.Ends.{take-min}
 use Rattle.plan.proofs.Types.{told, told-tells, told-makes, told-typed, spelled-makes}
@@ -201,6 +201,6 @@ check-held-plan-spec 𝓤 H 𝓜 𝓖 𝓡 =
     (walked 𝓤 H A held.ended stayed c (WpFn 𝓤 H (𝓣 .C) (𝓣 .Λ) code.function) (λ κs. (LL.vals R.the-type R′.the-laws, (slice-vals, (uint-vals w32, (uint-vals w32, tt)))))
     (λ κs. (LL.tells R.the-type R′.the-laws, (shr-slice-tells (named 0) (κs .0) u32, (uint-tells w32, (uint-tells w32, tt)))))
     (λ κs qs bounds a g are. via 𝓤 _ (fst∗ 𝓤 _ (emp 𝓤)) (walk 𝓤 H A W (𝓜 .mem) (𝓡 .run) 𝓣
-    (cited 𝓤 H _ 𝓜 𝓡 code.env shorter-def.name shorter-def.routine code.calls-plan-limits·shorter (shorter-thm.met 𝓤 H 𝓜 𝓖 𝓡))
+    (cited 𝓤 H _ 𝓜 𝓡 code.env shorter-def.name shorter-def.routine code.calls-limits·shorter (shorter-thm.met 𝓤 H 𝓜 𝓖 𝓡))
     (cited 𝓤 H _ 𝓜 𝓡 code.env check-plan-def.name check-plan-def.routine code.calls-plan·check-plan (check-plan-thm.met 𝓤 H 𝓜 𝓖 𝓡))
     (κs .0) (qs .0) (a .0) (a .1 .0) (a .1 .1 .0) (a .1 .1 .1 .0) (are .0) (are .1 .0 .0 .1) (are .1 .1 .0 .1) (are .1 .1 .1 .0 .1)))))
