@@ -1,9 +1,7 @@
 -- The 64-bit number gives the result back: a refusal's bit and its number stand above the offset or place, and the figures beside each other.
 use mathlib.Core.Path.{_≡_, refl}
-use Prim.Native.Nat.{_≤_}
 use native.Mathlib.Omega.{arith}
-use Rattle.packing.specs.declared.{StreamResult.StreamResult, PlanReason.PlanReason, PlanResult.PlanResult}
-use Rattle.packing.specs.declared.PlanReason.the-variants.{CapacityOutside, TooLong, SizeOutside, BinOutside, Overfull, OtherItems}
+use Rattle.packing.specs.declared.{StreamResult.StreamResult, PlanResult.PlanResult}
 use Rattle.packing.specs.Refusals.{streamNumber, planNumber}
 use Rattle.packing.proofs.Given.{stream-number-back, plan-number-back}
 use Rattle.codes.specs.Codes.{StreamCodeBack, PlanCodeBack}
@@ -20,19 +18,10 @@ stream-code-back (StreamResult.Refused reason offset) (StreamResult.Refused reas
     let place : offset ≡ offset′ = omega (arith, number) in
     cc (stream-number-back reason reason′ number)
 
--- A refusal's number is not 0.
-numbered : (reason : PlanReason) → 1 ≤ planNumber reason
-numbered CapacityOutside = omega arith
-numbered TooLong = omega arith
-numbered SizeOutside = omega arith
-numbered BinOutside = omega arith
-numbered Overfull = omega arith
-numbered OtherItems = omega arith
-
 pub plan-code-back : PlanCodeBack
 plan-code-back PlanResult.Passed PlanResult.Passed f g e = refl
-plan-code-back PlanResult.Passed (PlanResult.Refused reason place) f g e = absurd (omega (arith, numbered reason))
-plan-code-back (PlanResult.Refused reason place) PlanResult.Passed f g e = absurd (omega (arith, numbered reason))
+plan-code-back PlanResult.Passed (PlanResult.Refused reason place) f g e = absurd (omega arith)
+plan-code-back (PlanResult.Refused reason place) PlanResult.Passed f g e = absurd (omega arith)
 plan-code-back (PlanResult.Refused reason place) (PlanResult.Refused reason′ place′) f g e =
     let number : planNumber reason ≡ planNumber reason′ = omega (arith, f, g) in
     let same : place ≡ place′ = omega (arith, number) in

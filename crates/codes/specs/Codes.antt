@@ -7,20 +7,24 @@ use Rattle.packing.specs.declared.{Entry.Entry, StreamResult.StreamResult, Plan
 use Rattle.packing.specs.Refusals.{streamNumber, planNumber}
 use Rattle.worst_case.specs.PlanFits.{Fits}
 
--- Accepted: items x 65,536 + bins. Refused: 2^63 + number x 2^32 + offset.
+-- A refusal of any call, with its offset or place: 2^63 + number x 2^32 + place.
+abbrev pub refusalCode : (number place : ℕ) → ℕ
+refusalCode number place = 2 ^ 63 + number * 2 ^ 32 + place
+
+-- Accepted: items x 65,536 + bins.
 abbrev pub streamCode : StreamResult → ℕ
 streamCode (StreamResult.Accepted items opened) = items * 65_536 + opened
-streamCode (StreamResult.Refused reason offset) = 2 ^ 63 + streamNumber reason * 2 ^ 32 + offset
+streamCode (StreamResult.Refused reason offset) = refusalCode (streamNumber reason) offset
 
 -- Each figure fits its place in the number.
 abbrev pub FiguresFit : StreamResult → Type 0
 FiguresFit (StreamResult.Accepted items opened) = (items < 65_536) × (opened < 65_536)
 FiguresFit (StreamResult.Refused reason offset) = offset < 2 ^ 32
 
--- Passed: 0. Refused: number x 2^32 + place.
+-- Passed: 0.
 abbrev pub planCode : PlanResult → ℕ
 planCode PlanResult.Passed = 0
-planCode (PlanResult.Refused reason place) = planNumber reason * 2 ^ 32 + place
+planCode (PlanResult.Refused reason place) = refusalCode (planNumber reason) place
 
 abbrev pub PlaceFits : PlanResult → Type 0
 PlaceFits PlanResult.Passed = Unit {0}

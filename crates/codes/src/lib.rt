@@ -2,8 +2,20 @@
 use packing::PlanResult;
 use packing::StreamResult;
 ghost use mathlib.Core.Path.{_≡_};
-ghost use Rattle.codes.specs.Codes.{streamCode, FiguresFit, planCode, PlaceFits};
+ghost use Prim.Native.Nat.{_^_, _<_};
+ghost use Rattle.codes.specs.Codes.{refusalCode, streamCode, FiguresFit, planCode, PlaceFits};
 
+// A refusal of any call: its number, and its offset or place.
+fn refusal_code(number: u16, place: usize) -> u64
+    requires { ⌜ place < 2 ^ 32 ⌝ }
+    ensures { λ code. ⌜ code ≡ refusalCode number place ⌝ }
+{
+    let high = 9223372036854775808 + number as u64 * 4294967296;
+    let low = place as u64;
+    high + low
+}
+
+// What the stream call returns.
 pub fn stream_code(r: StreamResult) -> u64
     requires { ⌜ FiguresFit r ⌝ }
     ensures { λ code. ⌜ code ≡ streamCode r ⌝ }
@@ -15,14 +27,13 @@ pub fn stream_code(r: StreamResult) -> u64
             high + low
         }
         StreamResult::Refused { reason, offset } => {
-            let number = refusals::stream_number(reason) as u64;
-            let high = 9223372036854775808 + number * 4294967296;
-            let low = offset as u64;
-            high + low
+            let number = refusals::stream_number(reason);
+            refusal_code(number, offset)
         }
     }
 }
 
+// What the plan checker returns.
 pub fn plan_code(r: PlanResult) -> u64
     requires { ⌜ PlaceFits r ⌝ }
     ensures { λ code. ⌜ code ≡ planCode r ⌝ }
@@ -30,10 +41,8 @@ pub fn plan_code(r: PlanResult) -> u64
     match r {
         PlanResult::Passed => 0,
         PlanResult::Refused { reason, place } => {
-            let number = refusals::plan_number(reason) as u64;
-            let high = number * 4294967296;
-            let low = place as u64;
-            high + low
+            let number = refusals::plan_number(reason);
+            refusal_code(number, place)
         }
     }
 }

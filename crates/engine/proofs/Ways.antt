@@ -22,6 +22,7 @@ use Rattle.aim.specs.Aims.{home, aFor, accepting}
 use Rattle.aim.proofs.Aiming.{a-few}
 use Rattle.ledger.specs.Rows.{places, rowAt, classIn}
 use Rattle.ledger.specs.Entering.{entering, Entered}
+use Rattle.ledger.proofs.Chosen.{free-left}
 use Rattle.ledger.proofs.Entering.{IsEntry, row-before, records-placed}
 use Rattle.index.specs.Shown.{Shown}
 use Rattle.index.proofs.Indexing.{indexes-set}
@@ -50,12 +51,12 @@ module _ {o : Opening} {c : Counters} {size n : ℕ} (a : Aimed o c size n) {s :
     entry : IsEntry o p size (s .place) (home n) (s .free) (aFor n)
     entry = record { place-is = m .place-is; class-is = sym (m .class-is); free-is = m .free-is; a-is = a-more a }
 
-    modelled : Modelled o (Shelve size) (Placed (s .place + 1)) (store u ledger′ (accepting n (s .opened) c)) p
+    modelled : Modelled o (Shelve size) (Placed (s .place + 1) (s .free)) (store u ledger′ (accepting n (s .opened) c)) p
     modelled =
         let goes : decision o p (item size) ≡ into (binFor o p (item size)) =
         decides o p (item size) _ (goes-in (record { some = a .some; within-capacity = a .fits; not-spent = m .in-stock })) in
         record {
-          answered = rw goes (ap Placed (omega (arith, m .place-is)));
+          answered = rw (goes, free-left o p size, ← m .free-is) (ap (λ bin. Placed bin (s .free)) (omega (arith, m .place-is)));
           represents =
               rw goes
               (record {
@@ -72,7 +73,7 @@ module _ {o : Opening} {c : Counters} {size n : ℕ} (a : Aimed o c size n) {s :
         ⊎-elim inl (λ same. inr (same ∙ m .class-is ∙ sym new)) (row-before (r .records) inside entry .class)
 
   pub done-placed : {number : ℕ} → Sound o shape (store t ledger c) → Spotted o shape (store t ledger c) size n s
-      → Done o shape (store t ledger c) number (Shelve size) (answering number (Placed (s .place + 1))) (store u ledger′ (accepting n (s .opened) c))
+      → Done o shape (store t ledger c) number (Shelve size) (answering number (Placed (s .place + 1) (s .free))) (store u ledger′ (accepting n (s .opened) c))
   done-placed sound w = record {
     sound = record {
       index = rw (e .ledger-is) (indexes-set (sound .index) at-hand (class-before then there) d);

@@ -121,11 +121,12 @@ fn place_fitting(
     let place = spot.place;
     let next = aim::accept(counters, tree, spot.opened);
     let bin = (place + 1) as u16;
+    let free = spot.free;
     let answer = Answer {
         number,
-        outcome: Outcome::Placed(bin),
+        outcome: Outcome::Placed { bin, free },
     };
-    let row = ledger::enter(ledger, place, class, spot.free, a);
+    let row = ledger::enter(ledger, place, class, free, a);
     // Last: how far a store climbs is not foreseen by the processor, and nothing but the next command is to wait for it.
     index::show(trees, shape, place, row);
     Answered { answer, next }

@@ -4,13 +4,14 @@ use mathlib.Core.Logic.{_⊎_, inl, inr, ⊎-elim}
 use mathlib.Core.Bool.{Bool}
 use mathlib.Core.List.{List, [], _∷_, map}
 use mathlib.Mathlib.Data.Bool.Basic.{dichotomy}
-use Prim.Native.Nat.{ℕ, zero, suc}
+use Prim.Native.Nat.{ℕ, zero, suc, _+_, _-_}
+use borrow.Author.Tests.{eq-eqb}
 use lib.Dec.{eqb, eqb·zero-suc, eqb·suc-zero, eqb·suc-suc}
 use lib.ListN.{length, getD}
 use Rattle.packing.specs.declared.Opening.{Opening}
-use Rattle.packing.specs.Prelude.{if_then_else_, keep}
-use Rattle.packing.specs.Bins.{Item, Bin, Packing, add}
-use Rattle.packing.specs.Placing.{classOf, firstFit, put, target, takes}
+use Rattle.packing.specs.Prelude.{if_then_else_, total, keep}
+use Rattle.packing.specs.Bins.{Item, Bin, Packing, load, freeOn, add}
+use Rattle.packing.specs.Placing.{classOf, firstFit, put, target, takes, binFor, placed}
 use Rattle.packing.specs.Run.{item}
 use Rattle.packing.proofs.Putting.{fresh}
 use Rattle.ledger.specs.Rows.{blank, classIn, heldIn, heldAIn}
@@ -36,6 +37,13 @@ put-at f none takes new i [] (suc j) = rw (eqb·suc-zero j)
 put-at f none takes new i (b ∷ bs) zero = ⊎-elim (λ e. rw e (rw (eqb·zero-suc (firstFit takes bs)))) (λ e. rw e) (dichotomy (takes b))
 put-at f none takes new i (b ∷ bs) (suc j) =
     ⊎-elim (λ e. rw e (rw (eqb·suc-suc j (firstFit takes bs)) (put-at f none takes new i bs j))) (λ e. rw e (rw (eqb·suc-zero j))) (dichotomy (takes b))
+
+-- What the item leaves free on its bin.
+pub free-left : (o : Opening) (p : Packing) (size : ℕ)
+    → freeOn o (binFor o p (item size)) (placed o p (item size)) ≡ o .capacity - (size + load (chosen o p size))
+unfolding placed total
+free-left o p size =
+    rw (put-at (λ b. b .items) [] (takes o p (item size)) (newBin o p size) (item size) (p .bins) (passed o p size), eq-eqb (passed o p size) (passed o p size) refl)
 
 -- A row before an item goes to a bin: the bin's own, or that of no bin, where the bin is new and empty.
 pub record Before (o : Opening) (row : List ℕ) (b : Bin) : Type 0 where

@@ -1,4 +1,5 @@
--- Document 01's numbers give a refusal back, so results that give the same are the same; and the words give the outcomes back, beside their commands.
+-- Document 01's numbers give a refusal back, so results that give the same are the same; and the words of both rows give the outcomes back, beside
+-- their commands.
 use Prim.Native.Nat.{ℕ, suc, _+_, _-_, _≤_}
 use mathlib.Core.Path.{_≡_, refl, sym, ap, _∙_}
 use mathlib.Core.List.{List, [], _∷_, map, zipWith}
@@ -8,9 +9,9 @@ use lib.Dec.{eqb}
 use Rattle.packing.specs.Prelude.{if_then_else_, Opening, Command, Shelve, Count, Outcome, Placed, Counted, Refused, ItemReason, SizeZero, AboveCapacity, StockSpent}
 use Rattle.packing.specs.Prelude.{StreamReason, NoOpening, UnknownOpcode, CutShort, SecondOpening, OutsideLimits, TooManyCommands, TooFewWords, StreamResult}
 use Rattle.packing.specs.Prelude.{PlanReason, CapacityOutside, TooLong, SizeOutside, BinOutside, Overfull, OtherItems, PlanResult}
-use Rattle.packing.specs.Refusals.{streamNumber, itemNumber, planNumber, word, itemReason, outcomeOf}
-use Rattle.packing.specs.Bins.{Packing, empty}
-use Rattle.packing.specs.Placing.{Decision, binFor, decision}
+use Rattle.packing.specs.Refusals.{streamNumber, itemNumber, planNumber, word, freeUnits, itemReason, outcomeOf}
+use Rattle.packing.specs.Bins.{Packing, empty, freeOn}
+use Rattle.packing.specs.Placing.{Decision, binFor, decision, placed}
 use Rattle.packing.specs.Run.{item, told, answerTo, next, runFrom}
 use Rattle.packing.specs.Claims.{StreamGivesBack, PlanGivesBack, WordsGiveBack}
 use Rattle.packing.proofs.Limits.{in-limits}
@@ -99,10 +100,11 @@ stream-number-few OutsideLimits = omega arith
 stream-number-few TooManyCommands = omega arith
 stream-number-few TooFewWords = omega arith
 
--- What the answer to a command can be, in a packing that commands can reach: a bin or a count within the stock, or a refusal.
+-- What the answer to a command can be, in a packing that commands can reach: a bin within the stock with free units within the capacity, a count within
+-- the stock, or a refusal.
 module _ (o : Opening) (p : Packing) (h : Reached o p) where
   pub data Told : Command → Outcome → Type 0 where
-    placed-in : {s bin : ℕ} → bin ≤ o .stock → Told (Shelve s) (Placed bin)
+    placed-in : {s bin free : ℕ} → bin ≤ o .stock → free ≤ o .capacity → Told (Shelve s) (Placed bin free)
     counted : {n : ℕ} → n ≤ o .stock → Told Count (Counted n)
     refused : {s : ℕ} {reason : ItemReason} → Told (Shelve s) (Refused reason)
 
@@ -110,22 +112,25 @@ module _ (o : Opening) (p : Packing) (h : Reached o p) where
   told-to Count = counted (h .stock-lasts)
   told-to (Shelve s) = go (decision o p (item s)) (decided o p (item s))
     where
-      go : (d : Decision) → Decided o p (item s) d → Told (Shelve s) (told d)
-      go d (goes-in i) = placed-in {bin = binFor o p (item s)} (omega (arith, in-stock o p (item s) (i .not-spent) (h .stock-lasts)))
+      go : (d : Decision) → Decided o p (item s) d → Told (Shelve s) (told o (placed o p (item s)) d)
+      go d (goes-in i) =
+          let bin = binFor o p (item s) in
+          placed-in {bin = bin} {free = freeOn o bin (placed o p (item s))} (omega (arith, in-stock o p (item s) (i .not-spent) (h .stock-lasts))) (omega arith)
       go d (is-zero e) = refused
       go d (is-above l m) = refused
       go d (is-spent l m z) = refused
 
   -- A bin's number is below 32,768, so the word tells it from a refusal.
-  pub word-gives-back : o .stock ≤ 512 → (c : Command) (a : Outcome) → Told c a → outcomeOf c (word a) ≡ a
-  word-gives-back most c a (placed-in {bin = bin} l) = rw (lt-ltb bin 32_768 (omega arith))
+  pub word-gives-back : o .stock ≤ 512 → (c : Command) (a : Outcome) → Told c a → outcomeOf c (word a) (freeUnits a) ≡ a
+  word-gives-back most c a (placed-in {bin = bin} l m) = rw (lt-ltb bin 32_768 (omega arith))
   word-gives-back most c a (counted l) = refl
   word-gives-back most c a (refused {reason = reason}) =
       let k : 32_768 + itemNumber reason - 32_768 ≡ itemNumber reason = omega arith in
       rw (le-ltb (32_768 + itemNumber reason) 32_768 (omega arith), k, item-reason)
 
 words-from : (o : Opening) → o .stock ≤ 512 → (cs : List Command) (p : Packing) (n : ℕ) → Reached o p
-    → zipWith outcomeOf cs (map word (map (λ t. t .outcome) (runFrom o p n cs))) ≡ map (λ t. t .outcome) (runFrom o p n cs)
+    → zipWith (λ given free. given free) (zipWith outcomeOf cs (map word (map (λ t. t .outcome) (runFrom o p n cs)))) (map freeUnits (map (λ t. t .outcome) (runFrom o p n cs)))
+    ≡ map (λ t. t .outcome) (runFrom o p n cs)
 unfolding zipWith runFrom
 words-from o stock [] p n h = refl
 words-from o stock (c ∷ cs) p n h =

@@ -44,7 +44,7 @@ module _ (test : Bin → Bool) (class : ℕ) (i : Item) where
 
 module _ (o : Opening) where
   -- Bins are numbered from 1.
-  placed-items : (n : ℕ) (p : Packing) (s : ℕ) → itemsOf n (placed o p (item s)) ≡ grown (eqb (binFor o p (item s)) n) (item s) (itemsOf n p)
+  pub placed-items : (n : ℕ) (p : Packing) (s : ℕ) → itemsOf n (placed o p (item s)) ≡ grown (eqb (binFor o p (item s)) n) (item s) (itemsOf n p)
   unfolding placed
   placed-items zero p s = rw (eqb·suc-zero (firstFit (takes o p (item s)) (p .bins)))
   placed-items (suc n) p s =
@@ -77,7 +77,7 @@ items-at-most c n [] h = omega arith
 items-at-most c zero (b ∷ bs) h = h b (List·Memᴰ·head refl)
 items-at-most c (suc n) (b ∷ bs) h = items-at-most c n bs (λ x m. h x (List·Memᴰ·tail m))
 
-items-most : (c n : ℕ) (p : Packing) → ((b : Bin) → List·Memᴰ b (p .bins) → load b ≤ c) → total (map (λ i. i .size) (itemsOf n p)) ≤ c
+pub items-most : (c n : ℕ) (p : Packing) → ((b : Bin) → List·Memᴰ b (p .bins) → load b ≤ c) → total (map (λ i. i .size) (itemsOf n p)) ≤ c
 unfolding total
 items-most c zero p h = omega arith
 items-most c (suc n) p h = items-at-most c n (p .bins) h

@@ -40,7 +40,7 @@ module _ (o : Opening) where
   sent es = map Shelve (map (λ e. e .size) es)
 
   placed-again : (p : Packing) (s : ℕ) → IsPlaced o p (item s) → next o p (Shelve s) ≡ placed o p (item s)
-  placed-again p s h = ap (λ d. if isRefused (told d) then p else placed o p (item s)) (decides o p (item s) _ (goes-in h))
+  placed-again p s h = ap (λ d. if isRefused (told o (placed o p (item s)) d) then p else placed o p (item s)) (decides o p (item s) _ (goes-in h))
 
   pub resent-packing : {p q : Packing} {ts : List Step} → Trace o p ts q → foldl (next o) p (sent (entriesOf ts)) ≡ q
   unfolding flatten

@@ -11,6 +11,7 @@ pub mod Moves
 pub mod Reached
 pub mod Numbers
 pub mod Holding
+pub mod FreeUnits
 pub mod Running
 pub mod LeftOut
 pub mod Given

@@ -4,7 +4,7 @@ use mathlib.Core.Path.{_≡_, refl}
 use mathlib.Core.List.{List, [], _∷_, foldl}
 use Rattle.packing.specs.Prelude.{if_then_else_, Opening, Command, Shelve, Count, Outcome, Placed}
 use Rattle.packing.specs.Refusals.{isRefused}
-use Rattle.packing.specs.Bins.{Packing, empty}
+use Rattle.packing.specs.Bins.{Packing, empty, freeOn}
 use Rattle.packing.specs.Placing.{Decision, binFor, decision, placed}
 use Rattle.packing.specs.Run.{item, told, Step, placement, answerTo, next, runFrom, run, packing}
 use Rattle.packing.proofs.Decided.{IsPlaced, Decided, goes-in, is-zero, is-above, is-spent, decided}
@@ -12,14 +12,15 @@ use Rattle.packing.proofs.Decided.{IsPlaced, Decided, goes-in, is-zero,
 module _ (o : Opening) where
   -- From the packing p to the next by a command that comes to this: it places its item, or it gives no entry and all stays.
   pub data Move (p : Packing) : Command → Outcome → Packing → Type 0 where
-    places : {s : ℕ} → IsPlaced o p (item s) → Move p (Shelve s) (Placed (binFor o p (item s))) (placed o p (item s))
+    places : {s : ℕ} → IsPlaced o p (item s)
+        → Move p (Shelve s) (Placed (binFor o p (item s)) (freeOn o (binFor o p (item s)) (placed o p (item s)))) (placed o p (item s))
     stays : {c : Command} {a : Outcome} → placement c a ≡ [] → Move p c a p
 
   pub move : (p : Packing) (c : Command) → Move p c (answerTo o p c) (next o p c)
   move p Count = stays refl
   move p (Shelve s) = go (decision o p (item s)) (decided o p (item s))
     where
-      go : (d : Decision) → Decided o p (item s) d → Move p (Shelve s) (told d) (if isRefused (told d) then p else placed o p (item s))
+      go : (d : Decision) → Decided o p (item s) d → Move p (Shelve s) (told o (placed o p (item s)) d) (if isRefused (told o (placed o p (item s)) d) then p else placed o p (item s))
       go d (goes-in h) = places h
       go d (is-zero e) = stays refl
       go d (is-above l m) = stays refl

@@ -50,7 +50,7 @@ entries-few [] = omega arith
 entries-few (t ∷ ts) = go (t .command) (t .outcome) (entriesOf ts) (entries-few ts)
   where
     go : (c : Command) (a : Outcome) (es : List Entry) → length es ≤ length ts → length (placement c a ++ es) ≤ suc (length ts)
-    go c (Placed bin) es h = omega arith
+    go c (Placed bin free) es h = omega arith
     go c (Counted n) es h = omega arith
     go c (Refused reason) es h = omega arith
 

@@ -5,7 +5,7 @@ use mathlib.Core.List.{List, [], _∷_, _++_, map, foldl, flatten, map-append, f
 use native.Mathlib.Omega.{arith}
 use lib.ListN.{length, take, drop, getD, length-map}
 use lib.Seq.{getD-at}
-use Rattle.packing.specs.Prelude.{Opening, Command, Count}
+use Rattle.packing.specs.Prelude.{Opening, Command, Count, Outcome}
 use Rattle.packing.specs.Refusals.{word}
 use Rattle.packing.specs.Bins.{Packing, empty, opened}
 use Rattle.packing.specs.Run.{Step, placement, answerOf, entriesOf, answerTo, next, runFrom, run, outcomes, packing}
@@ -23,6 +23,10 @@ module _ (o : Opening) where
   unfolding runFrom
   run-length [] p n = refl
   run-length (c ∷ cs) p n = ap suc (run-length cs (next o p c) (suc n))
+
+  -- And one word, in a row of what tells of outcomes.
+  pub told-length : (cs : List Command) (tells : Outcome → ℕ) → length (map tells (outcomes o cs)) ≡ length cs
+  told-length cs tells = length-map (outcomes o cs) tells ∙ length-map (run o cs) (λ t. t .outcome) ∙ run-length cs empty 1
 
   -- So no more items are placed than commands are sent.
   pub placements-few : (cs : List Command) → length (entriesOf (run o cs)) ≤ length cs
@@ -54,14 +58,14 @@ module _ (o : Opening) where
     pub mapped-more : {A : Type 0} (f : Step → A) → map f (run o (cs ++ c ∷ [])) ≡ map f (run o cs) ++ f stepAfter ∷ []
     mapped-more f = ap (map f) run-more ∙ map-append f (run o cs) (stepAfter ∷ [])
 
-    -- Where others follow it, its word stands behind those before.
-    pub word-ahead : (later : List Command) (words behind : List ℕ) (done : ℕ) → words ≡ map word (outcomes o (cs ++ c ∷ later)) ++ behind → done ≡ length cs
-        → getD words done 0 ≡ word (answerTo o (packing o cs) c)
-    word-ahead later words behind done e d =
-        let before = map word (outcomes o cs) in
-        let count : length before ≡ done = length-map (outcomes o cs) word ∙ length-map (run o cs) (λ t. t .outcome) ∙ run-length cs empty 1 ∙ sym d in
-        let after = map word (map (λ t. t .outcome) (runFrom o (next o (packing o cs) c) (suc (suc (length cs))) later)) in
-        rw (e, run-ahead later, map-append, map-append, append-assoc) (getD-at before (word (answerTo o (packing o cs) c)) (after ++ behind) 0 done count)
+    -- Where others follow it, its word stands behind those before, in a row of what tells of outcomes.
+    pub word-ahead : (tells : Outcome → ℕ) (later : List Command) (words behind : List ℕ) (done : ℕ) → words ≡ map tells (outcomes o (cs ++ c ∷ later)) ++ behind
+        → done ≡ length cs → getD words done 0 ≡ tells (answerTo o (packing o cs) c)
+    word-ahead tells later words behind done e d =
+        let before = map tells (outcomes o cs) in
+        let after = map tells (map (λ t. t .outcome) (runFrom o (next o (packing o cs) c) (suc (suc (length cs))) later)) in
+        rw (e, run-ahead later, map-append, map-append, append-assoc)
+        (getD-at before (tells (answerTo o (packing o cs) c)) (after ++ behind) 0 done (told-length cs tells ∙ sym d))
 
     pub placements-more : entriesOf (run o (cs ++ c ∷ [])) ≡ entriesOf (run o cs) ++ placement c (answerTo o (packing o cs) c)
     unfolding flatten

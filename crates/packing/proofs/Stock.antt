@@ -9,7 +9,7 @@ use lib.Dec.{ltb, leb}
 use lib.ListN.{length}
 use Rattle.packing.specs.Prelude.{if_then_else_, Opening, Refused, StockSpent}
 use Rattle.packing.specs.Bins.{Item, Bin, Packing, opened, load}
-use Rattle.packing.specs.Placing.{Decision, firstFit, permitted, target, hasSpace, takes, binFor, decision}
+use Rattle.packing.specs.Placing.{Decision, firstFit, permitted, target, hasSpace, takes, binFor, decision, placed}
 use Rattle.packing.specs.Run.{item, told}
 use Rattle.packing.specs.Claims.{Spent, SpentExactly}
 use Rattle.packing.proofs.Tests.{clash, both-true, each-cons}
@@ -47,7 +47,7 @@ module _ (o : Opening) (p : Packing) (i : Item) where
       go true e = lt-leb (load b + i .size) (o .capacity) (h e)
       go false e = refl
 
-  spent-only : (d : Decision) → Decided o p i d → told d ≡ Refused StockSpent → Spent o p i
+  spent-only : (d : Decision) → Decided o p i d → told o (placed o p i) d ≡ Refused StockSpent → Spent o p i
   spent-only d (goes-in h) e = clash (cc)
   spent-only d (is-zero h) e = clash (cc)
   spent-only d (is-above l m) e = clash (cc)
@@ -61,10 +61,10 @@ module _ (o : Opening) (p : Packing) (i : Item) where
         all-opened = leb-true (o .stock) (opened p) (both .1);
       }
 
-  spent-then : Spent o p i → told (decision o p i) ≡ Refused StockSpent
+  spent-then : Spent o p i → told o (placed o p i) (decision o p i) ≡ Refused StockSpent
   spent-then h =
       let all = passes-all (takes o p i) (p .bins) (λ b m. refuses b (h .no-space b m)) in
-      ap told
+      ap (told o (placed o p i))
       (decides o p i _
       (is-spent (h .some) (h .within-capacity) (rw (lt-ltb (opened p) (binFor o p i) (omega arith), le-leb (o .stock) (opened p) (h .all-opened)))))
 

@@ -18,6 +18,7 @@ use Rattle.packing.proofs.Running.{prefix-from, count-from}
 use Rattle.packing.proofs.LeftOut.{kept-alike, resent-packing, resent-bins}
 pub use Rattle.packing.proofs.SizeClasses.{class-bounds, bounds-class}
 pub use Rattle.packing.proofs.Stock.{spent-exactly}
+pub use Rattle.packing.proofs.FreeUnits.{free-units}
 pub use Rattle.packing.proofs.Accepted.{accepted-whole}
 pub use Rattle.packing.proofs.Given.{stream-gives-back, plan-gives-back, words-give-back}
 

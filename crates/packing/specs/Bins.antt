@@ -1,5 +1,5 @@
 -- Items, bins and packings: document 01's masters, cartridges and shelf.
-use Rattle.packing.specs.Prelude.{ℕ, zero, suc, Bool, List, [], _∷_, map, length, getD, total, any, Opening, SizeClass}
+use Rattle.packing.specs.Prelude.{ℕ, zero, suc, _-_, Bool, List, [], _∷_, map, length, getD, total, any, Opening, SizeClass}
 use Rattle.packing.specs.SizeClasses.{sizeClass, isA}
 
 -- A master has a whole number of units.
@@ -30,6 +30,10 @@ load b = total (map (λ i. i .size) (b .items))
 abbrev pub itemsOf : (n : ℕ) → Packing → List Item
 itemsOf zero p = []
 itemsOf (suc before) p = getD (map (λ b. b .items) (p .bins)) before []
+
+-- The free units of bin n: what its items leave of the capacity.
+abbrev pub freeOn : Opening → (n : ℕ) → Packing → ℕ
+freeOn o n p = o .capacity - total (map (λ i. i .size) (itemsOf n p))
 
 abbrev pub add : Item → Bin → Bin
 add i b = record { class = b .class; items = i ∷ b .items }

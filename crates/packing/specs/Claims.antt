@@ -1,10 +1,10 @@
 -- What is promised of the model, as statements; ../proofs shows each of every opening and every list of commands. Demand 3 and the plan of a packing's
 -- own answers are stated in the crate worst_case.
-use Rattle.packing.specs.Prelude.{ℕ, _+_, _*_, _≤_, _<_, _≡_, _↔_, Bool, true, _||_, List, [], _∷_, map, zipWith, reverse, length, take, drop, List·Memᴰ, total, _=?_}
-use Rattle.packing.specs.Prelude.{Opening, SizeClass, A, B1, B2, X, Command, Shelve, Count, Refused, ItemReason, StockSpent, Entry, StreamResult, PlanResult}
-use Rattle.packing.specs.Refusals.{word, outcomeOf, figures, streamGives, planGives}
+use Rattle.packing.specs.Prelude.{ℕ, suc, _+_, _*_, _≤_, _<_, _≡_, _↔_, Bool, true, _||_, List, [], _∷_, _++_, map, zipWith, reverse, length, take, drop, List·Memᴰ, total, _=?_}
+use Rattle.packing.specs.Prelude.{Opening, SizeClass, A, B1, B2, X, Command, Shelve, Count, Outcome, Placed, Refused, ItemReason, StockSpent, Entry, StreamResult, PlanResult}
+use Rattle.packing.specs.Refusals.{word, freeUnits, outcomeOf, figures, streamGives, planGives}
 use Rattle.packing.specs.Bins.{Item, Bin, Packing, opened, load, itemsOf, kind}
-use Rattle.packing.specs.Placing.{permitted, target}
+use Rattle.packing.specs.Placing.{permitted, target, takes}
 use Rattle.packing.specs.Limits.{openingGood, mostCommands}
 use Rattle.packing.specs.Streams.{openingLength, openingOf, behindOpening, accepted, commands, verdict}
 use Rattle.packing.specs.Run.{item, answerTo, next, packing, outcomes, answers, placements, result}
@@ -33,6 +33,17 @@ pub record SoundBin (o : Opening) (b : Bin) : Type 0 where
   pub to-class-4 : b .class ≤ 4
   pub in-class : (i : Item) → List·Memᴰ i (b .items) → mayLieIn (kind o i) (b .class) ≡ true
 
+-- In a packing the bin of this number has so many free units: with its load they make up the capacity, and it takes an item that is permitted there, as
+-- first fit asks, exactly if the size is at most so many.
+pub record FreeOf (o : Opening) (p : Packing) (number free : ℕ) : Type 0 where
+  pub before : List Bin
+  pub bin : Bin
+  pub behind : List Bin
+  pub bins-are : p .bins ≡ before ++ bin ∷ behind
+  pub numbered : number ≡ suc (length before)
+  pub with-load : free + load bin ≡ o .capacity
+  pub takes-up-to : (i : Item) → permitted o (target o p i) bin ≡ true → (takes o p i bin ≡ true) ↔ (i .size ≤ free)
+
 module _ (o : Opening) (cs : List Command) where
   -- After each command bin n holds the items answered n, in the stream's order, and no others. (The last item of a bin stands first.)
   abbrev pub HoldsAnswered : Type 0
@@ -43,6 +54,13 @@ module _ (o : Opening) (cs : List Command) where
     pub shown : (j n : ℕ) → total (sizesIn n (placements o (take j cs))) ≤ o .capacity
     -- Nor does the load of a bin exceed it; every bin has its class, 1 to 4, and at least one item.
     pub bins : (j : ℕ) (b : Bin) → List·Memᴰ b (packing o (take j cs) .bins) → SoundBin o b
+
+  -- Where command j + 1 is answered by a bin and its free units, these are that bin's after every command up to which the items answered its number are
+  -- the same: from that command on, until the bin is answered again.
+  abbrev pub FreeUnits : Type 0
+  FreeUnits =
+      (j i bin free : ℕ) (later : List Outcome) → drop j (outcomes o cs) ≡ Placed bin free ∷ later
+      → sizesIn bin (placements o (take i cs)) ≡ sizesIn bin (placements o (take (suc j) cs)) → FreeOf o (packing o (take i cs)) bin free
 
   -- The loads always add up to the sizes of the accepted items.
   abbrev pub LoadsAddUp : Type 0
@@ -79,9 +97,10 @@ StreamGivesBack = (r s : StreamResult) → streamGives r ≡ streamGives s → r
 abbrev pub PlanGivesBack : Type 0
 PlanGivesBack = (r s : PlanResult) → planGives r ≡ planGives s → r ≡ s
 
--- So do the words, beside their commands.
+-- So do the words of both rows, beside their commands.
 abbrev pub WordsGiveBack : Opening → List Command → Type 0
-WordsGiveBack o cs = openingGood o ≡ true → zipWith outcomeOf cs (map word (outcomes o cs)) ≡ outcomes o cs
+WordsGiveBack o cs =
+    openingGood o ≡ true → zipWith (λ given free. given free) (zipWith outcomeOf cs (map word (outcomes o cs))) (map freeUnits (outcomes o cs)) ≡ outcomes o cs
 
 -- What no stream refusal leaves of a stream for which so many words are lent: the opening at its front, within its limits, a whole command at every
 -- place after it, and no more commands than 4,096 and than there are words.

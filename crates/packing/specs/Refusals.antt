@@ -27,24 +27,30 @@ planNumber Overfull = 15
 planNumber OtherItems = 16
 
 abbrev pub isRefused : Outcome → Bool
-isRefused (Placed bin) = false
+isRefused (Placed bin free) = false
 isRefused (Counted opened) = false
 isRefused (Refused reason) = true
 
 -- "Word n holds the cartridge number or the count for command n, or 32,768 plus the refusal number."
 abbrev pub word : Outcome → ℕ
-word (Placed bin) = bin
+word (Placed bin free) = bin
 word (Counted opened) = opened
 word (Refused reason) = 32_768 + itemNumber reason
+
+-- "Each answer carries the free units left on the named cartridge just after the master, and 0 for counted or refused."
+abbrev pub freeUnits : Outcome → ℕ
+freeUnits (Placed bin free) = free
+freeUnits (Counted opened) = 0
+freeUnits (Refused reason) = 0
 
 -- The refusal of an item that has this number.
 abbrev pub itemReason : (number : ℕ) → ItemReason
 itemReason n = if n =? 8 then SizeZero else if n =? 9 then AboveCapacity else StockSpent
 
--- The outcome that a word stands for. The word alone does not tell a bin's number from a count: the command does.
-abbrev pub outcomeOf : Command → (word : ℕ) → Outcome
-outcomeOf (Shelve size) w = if w <? 32_768 then Placed w else Refused (itemReason (w - 32_768))
-outcomeOf Count w = Counted w
+-- The outcome that a word and the free units beside it stand for. The word alone does not tell a bin's number from a count: the command does.
+abbrev pub outcomeOf : Command → (word free : ℕ) → Outcome
+outcomeOf (Shelve size) w free = if w <? 32_768 then Placed w free else Refused (itemReason (w - 32_768))
+outcomeOf Count w free = Counted w
 
 -- What a call returns, in document 01's numbers: its figures; or the number of a refusal, with its offset or its place.
 pub data Returned : Type 0 where

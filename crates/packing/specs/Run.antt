@@ -1,18 +1,18 @@
 -- What an accepted stream does: each command gets the packing that the one before it left, the first the empty one.
 use Rattle.packing.specs.Prelude.{ℕ, suc, List, [], _∷_, _++_, map, foldl, flatten, length, drop, if_then_else_}
 use Rattle.packing.specs.Prelude.{Opening, Command, Shelve, Count, Outcome, Placed, Counted, Refused, Answer, Entry, StreamResult}
-use Rattle.packing.specs.Refusals.{word, isRefused}
-use Rattle.packing.specs.Bins.{Item, Packing, empty, opened}
+use Rattle.packing.specs.Refusals.{isRefused}
+use Rattle.packing.specs.Bins.{Item, Packing, empty, opened, freeOn}
 use Rattle.packing.specs.Placing.{Decision, into, refusing, decision, placed}
 use Rattle.packing.specs.Streams.{Read, accepted, refused}
 
 abbrev pub item : ℕ → Item
 item size = record { size = size }
 
--- What is decided of an item, as it is answered.
-abbrev pub told : Decision → Outcome
-told (into bin) = Placed bin
-told (refusing reason) = Refused reason
+-- What is decided of an item, as it is answered: with its bin, the free units that it leaves there. (The packing is the one with the item.)
+abbrev pub told : Opening → Packing → Decision → Outcome
+told o p (into bin) = Placed bin (freeOn o bin p)
+told o p (refusing reason) = Refused reason
 
 -- One command of the run: its number from 1, the packing that it gets, and what it comes to.
 pub record Step : Type 0 where
@@ -23,7 +23,7 @@ pub record Step : Type 0 where
 
 module _ (o : Opening) where
   abbrev pub answerTo : Packing → Command → Outcome
-  answerTo p (Shelve s) = told (decision o p (item s))
+  answerTo p (Shelve s) = told o (placed o p (item s)) (decision o p (item s))
   answerTo p Count = Counted (opened p)
 
   -- What a command does, if it is not refused.
@@ -46,7 +46,7 @@ sizeOf Count = 0
 
 -- A command that shelves an item and is not refused gives its size and its bin.
 abbrev pub placement : Command → Outcome → List Entry
-placement c (Placed bin) = record { size = sizeOf c; bin = bin } ∷ []
+placement c (Placed bin free) = record { size = sizeOf c; bin = bin } ∷ []
 placement c (Counted opened) = []
 placement c (Refused reason) = []
 
@@ -80,7 +80,8 @@ abbrev pub result : Read → StreamResult
 result (accepted o cs) = StreamResult.Accepted (length (placements o cs)) (opened (packing o cs))
 result (refused reason offset) = StreamResult.Refused reason offset
 
--- The answer row at exit: word n for command n, and words past the last command are untouched; all are where the stream is refused.
-abbrev pub rowAtExit : Read → List ℕ → List ℕ
-rowAtExit (accepted o cs) row = map word (outcomes o cs) ++ drop (length cs) row
-rowAtExit (refused reason offset) row = row
+-- A row at exit, by what it tells of an outcome: the answer row by `word`, the row of free units by `freeUnits`. Word n is of command n, and words past
+-- the last command are untouched; all are where the stream is refused.
+abbrev pub rowAtExit : (tells : Outcome → ℕ) → Read → List ℕ → List ℕ
+rowAtExit tells (accepted o cs) row = map tells (outcomes o cs) ++ drop (length cs) row
+rowAtExit tells (refused reason offset) row = row

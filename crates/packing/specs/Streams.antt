@@ -1,5 +1,5 @@
 -- "Command streams": a row of bytes is read as an opening and the commands after it, or refused.
-use Rattle.packing.specs.Prelude.{ℕ, zero, suc, _+_, _*_, _≡_, not, List, [], _∷_, foldl, length, take, drop, _=?_, _<?_, if_then_else_}
+use Rattle.packing.specs.Prelude.{ℕ, zero, suc, _+_, _*_, min, _≡_, not, List, [], _∷_, foldl, length, take, drop, _=?_, _<?_, if_then_else_}
 use Rattle.packing.specs.Prelude.{Opening, Command, Shelve, Count, WidthRow, Width, Known, Unknown}
 use Rattle.packing.specs.Prelude.{StreamReason, NoOpening, UnknownOpcode, CutShort, SecondOpening, OutsideLimits, TooManyCommands, TooFewWords}
 use Rattle.packing.specs.Limits.{openingGood, mostCommands}
@@ -91,7 +91,11 @@ read (b ∷ s) =
     if not (openingGood (openingOf s)) then refused OutsideLimits 0 else
     commands (openingOf s) mostCommands openingLength (drop openingWidth s)
 
--- Refusal 7 comes last of the stream's: fewer answer words lent than commands, at the length of the stream.
+-- Two rows are lent, and "refusal 7 covers a shortage in either row": so many commands have a word in both.
+abbrev pub wordsLent : (answers free : List ℕ) → ℕ
+wordsLent answers free = min (length answers) (length free)
+
+-- Refusal 7 comes last of the stream's: fewer words lent than commands, at the length of the stream.
 abbrev pub lent : (words bytes : ℕ) → Read → Read
 lent words bytes (accepted o cs) = if words <? length cs then refused TooFewWords bytes else accepted o cs
 lent words bytes (refused reason offset) = refused reason offset

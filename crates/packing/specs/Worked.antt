@@ -1,7 +1,7 @@
 -- "Worked shelves": the cases marked ● make one table, proved together by one theorem that computes over it.
 use Rattle.packing.specs.Prelude.{ℕ, _+_, _*_, _≡_, refl, Bool, true, List, [], _∷_, _++_, map, zipWith, flatten, replicate, total, greatest, any, _≤?_}
 use Rattle.packing.specs.Prelude.{Opening, SizeClass, A, B1, B2, X, Shelve, StreamResult, PlanResult, Overfull}
-use Rattle.packing.specs.Refusals.{word}
+use Rattle.packing.specs.Refusals.{word, freeUnits}
 use Rattle.packing.specs.SizeClasses.{sizeClass}
 use Rattle.packing.specs.Placing.{firstFit, put, decision, placed}
 use Rattle.packing.specs.Streams.{widths, lookup, commands, read, verdict}
@@ -29,6 +29,9 @@ opening c stock = record { capacity = c; stock = stock; m = 6 }
 
 abbrev pub shelved : (capacity stock : ℕ) → List ℕ → Finding
 shelved c stock sizes = words (map word (outcomes (opening c stock) (map Shelve sizes)))
+
+abbrev pub left : (capacity stock : ℕ) → List ℕ → Finding
+left c stock sizes = words (map freeUnits (outcomes (opening c stock) (map Shelve sizes)))
 
 abbrev pub planned : (capacity k : ℕ) (sizes bins : List ℕ) → Finding
 planned c k sizes bins = checked (check c k (planOf sizes bins) sizes)
@@ -70,9 +73,12 @@ table =
     -- Beyond the ●: every B2 counts towards m, an m-th B2 joins no lone B2, and a refused B2 is not counted.
     shelved 60 512 (replicate 12 22) is words (1 ∷ 1 ∷ 2 ∷ 2 ∷ 3 ∷ 4 ∷ 3 ∷ 5 ∷ 5 ∷ 6 ∷ 6 ∷ 7 ∷ []) ∷
     shelved 60 2 (31 ∷ 31 ∷ replicate 6 22) is words (1 ∷ 2 ∷ replicate 6 32_778) ∷
-    -- The sample stream, with two words more than it has commands.
+    -- Free units: a full bin leaves none, and a refused item has none.
+    left 60 512 (60 ∷ 30 ∷ 30 ∷ 0 ∷ 22 ∷ []) is words (0 ∷ 30 ∷ 0 ∷ 0 ∷ 38 ∷ []) ∷
+    -- The sample stream, with two words more in each row than it has commands.
     returned (result (verdict sample 12)) is returned (StreamResult.Accepted 8 4) ∷
-    words (rowAtExit (verdict sample 12) (replicate 12 7)) is words (1 ∷ 2 ∷ 2 ∷ 3 ∷ 3 ∷ 4 ∷ 1 ∷ 32_778 ∷ 4 ∷ 4 ∷ 7 ∷ 7 ∷ []) ∷
+    words (rowAtExit word (verdict sample 12) (replicate 12 7)) is words (1 ∷ 2 ∷ 2 ∷ 3 ∷ 3 ∷ 4 ∷ 1 ∷ 32_778 ∷ 4 ∷ 4 ∷ 7 ∷ 7 ∷ []) ∷
+    words (rowAtExit freeUnits (verdict sample 12) (replicate 12 7)) is words (25 ∷ 38 ∷ 16 ∷ 38 ∷ 16 ∷ 38 ∷ 3 ∷ 0 ∷ 0 ∷ 16 ∷ 7 ∷ 7 ∷ []) ∷
     []
 
 pub worked-shelves : map (λ c. c .0) table ≡ map (λ c. c .1) table

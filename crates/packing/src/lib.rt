@@ -50,9 +50,9 @@ pub enum ItemReason {
     StockSpent,
 }
 
-// What a command comes to: the bin of its item, the number of bins opened, or a refusal.
+// What a command comes to: the bin of its item and the units that the item leaves free there, the number of bins opened, or a refusal.
 pub enum Outcome {
-    Placed(u16),
+    Placed { bin: u16, free: u32 },
     Counted(u16),
     Refused(ItemReason),
 }

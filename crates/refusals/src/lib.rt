@@ -1,11 +1,11 @@
-// "What a refusal gives": document 01's number of each refusal, the word of an answer, and the answer that a word stands for.
+// "What a refusal gives": document 01's number of each refusal, the words of an answer in both rows, and the answer that they stand for.
 use packing::Command;
 use packing::ItemReason;
 use packing::Outcome;
 use packing::PlanReason;
 use packing::StreamReason;
 ghost use mathlib.Core.Path.{_≡_};
-ghost use Rattle.packing.specs.Refusals.{itemNumber, streamNumber, planNumber, word, itemReason, outcomeOf};
+ghost use Rattle.packing.specs.Refusals.{itemNumber, streamNumber, planNumber, word, freeUnits, itemReason, outcomeOf};
 
 // Document 01's number of an item's refusal.
 pub fn item_number(reason: ItemReason) -> u16
@@ -52,12 +52,23 @@ pub fn word_of(outcome: Outcome) -> u16
     ensures { λ r. ⌜ r ≡ word outcome ⌝ }
 {
     match outcome {
-        Outcome::Placed(bin) => bin,
+        Outcome::Placed { bin, free: _ } => bin,
         Outcome::Counted(opened) => opened,
         Outcome::Refused(reason) => {
             let number = item_number(reason);
             32768 + number
         }
+    }
+}
+
+// The 32-bit word beside it: the units that are free on the bin it names, and 0 where it names none.
+pub fn free_units_of(outcome: Outcome) -> u32
+    ensures { λ r. ⌜ r ≡ freeUnits outcome ⌝ }
+{
+    match outcome {
+        Outcome::Placed { bin: _, free } => free,
+        Outcome::Counted(_) => 0,
+        Outcome::Refused(_) => 0,
     }
 }
 
@@ -72,15 +83,15 @@ fn item_reason(number: u16) -> ItemReason
     }
 }
 
-// The outcome that an answer word stands for: the command tells a bin's number from a count.
-pub fn outcome_of(command: Command, word: u16) -> Outcome
-    ensures { λ r. ⌜ r ≡ outcomeOf command word ⌝ }
+// The outcome that an answer word and the free units beside it stand for: the command tells a bin's number from a count.
+pub fn outcome_of(command: Command, word: u16, free: u32) -> Outcome
+    ensures { λ r. ⌜ r ≡ outcomeOf command word free ⌝ }
 {
     match command {
         Command::Count => Outcome::Counted(word),
         Command::Shelve(_) => {
             if word < 32768 {
-                return Outcome::Placed(word);
+                return Outcome::Placed { bin: word, free };
             }
             let reason = item_reason(word - 32768);
             Outcome::Refused(reason)

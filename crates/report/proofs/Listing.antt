@@ -7,7 +7,7 @@ use lib.ListN.{length, drop, getD, length-append}
 use lib.Seq.{length-sets}
 use Rattle.packing.specs.declared.{Opening.Opening, Command.Command, Outcome.Outcome, Answer.Answer}
 use Rattle.packing.specs.Limits.{mostCommands}
-use Rattle.packing.specs.Refusals.{outcomeOf}
+use Rattle.packing.specs.Refusals.{word, freeUnits, outcomeOf}
 use Rattle.packing.specs.Bins.{Packing}
 use Rattle.packing.specs.Streams.{behindOpening, whole, frontOf, WholeFront}
 use Rattle.packing.specs.Run.{answerOf, answerTo, runFrom, packing, answers}
@@ -25,12 +25,12 @@ use Rattle.report.specs.Lines.{lineOf, answerLine, lines, mostOfALine}
 use Rattle.report.specs.Writing.{Listable, Listed}
 use Rattle.report.proofs.Lengths.{answer-line-few}
 
-pub listable-whole : {stream words out : List ℕ} (a : Listable stream words out) → WholeStream stream mostCommands (a .opening) (a .commands)
+pub listable-whole : {stream words free out : List ℕ} (a : Listable stream words free out) → WholeStream stream mostCommands (a .opening) (a .commands)
 listable-whole {stream = stream} a = accepted-whole mostCommands (a .opening) (a .commands) stream (a .accepts)
 
 -- So many commands are past, and their lines end at this place.
-pub record Listing (stream words out₀ out rest : List ℕ) (done at : ℕ) : Type 0 where
-  pub from : Listable stream words out₀
+pub record Listing (stream words free out₀ out rest : List ℕ) (done at : ℕ) : Type 0 where
+  pub from : Listable stream words free out₀
   pub past : List Command
   pub offset : ℕ
   pub walk : Walk (from .opening) stream rest offset past
@@ -38,7 +38,8 @@ pub record Listing (stream words out₀ out rest : List ℕ) (done at : ℕ) : T
   pub few : at ≤ mostOfALine * done
   pub wrote : Wrote out₀ 0 (lines (answers (from .opening) past)) at out
 
-pub listing-start : {stream words out : List ℕ} (rest : List ℕ) → Listable stream words out → rest ≡ behindOpening stream → Listing stream words out out rest 0 0
+pub listing-start : {stream words free out : List ℕ} (rest : List ℕ) → Listable stream words free out → rest ≡ behindOpening stream
+    → Listing stream words free out out rest 0 0
 unfolding runFrom flatten
 listing-start {stream = stream} rest a b = record {
   from = a;
@@ -50,7 +51,7 @@ listing-start {stream = stream} rest a b = record {
   wrote = record { place = omega arith; bytes = refl };
 }
 
-module _ {stream words out₀ out rest : List ℕ} {done at : ℕ} (g : Listing stream words out₀ out rest done at) where
+module _ {stream words free out₀ out rest : List ℕ} {done at : ℕ} (g : Listing stream words free out₀ out rest done at) where
   abbrev o : Opening
   o = g .from .opening
 
@@ -84,20 +85,22 @@ module _ {stream words out₀ out rest : List ℕ} {done at : ℕ} (g : Listing 
     pub listing-index : done < 4096
     listing-index = omega (arith, g .done-are, more)
 
-    module _ (a : Outcome) (e : a ≡ outcomeOf c (getD words done 0)) where
+    module _ (a : Outcome) (e : a ≡ outcomeOf c (getD words done 0) (getD free done 0)) where
       abbrev packed : Packing
       packed = packing o (g .past)
 
       stock : o .stock ≤ 512
       stock = in-limits o (ok .opening-good) .stock .1
 
-      -- The word at the command's place tells its answer.
+      -- The words at the command's place tell its answer.
       told : a ≡ answerTo o packed c
       told =
           let coming = walk-coming (walk-next (g .walk) more c w f) all (ok .commands-whole) in
           let all-are : all ≡ g .past ++ c ∷ coming .later = coming .all-are ∙ append-assoc (g .past) (c ∷ []) (coming .later) in
-          let here = word-ahead o (g .past) c (coming .later) words (g .from .others) done (rw (← all-are) (g .from .answers)) (g .done-are) in
-          e ∙ ap (outcomeOf c) here ∙ word-gives-back o packed (reached o (g .past)) stock c (answerTo o packed c) (told-to o packed (reached o (g .past)) c)
+          let here = word-ahead o (g .past) c word (coming .later) words (g .from .others) done (rw (← all-are) (g .from .answers)) (g .done-are) in
+          let beside = word-ahead o (g .past) c freeUnits (coming .later) free (g .from .other-frees) done (rw (← all-are) (g .from .frees)) (g .done-are) in
+          e ∙ ap (λ (n : ℕ). outcomeOf c n (getD free done 0)) here ∙ ap (outcomeOf c (word (answerTo o packed c))) beside
+          ∙ word-gives-back o packed (reached o (g .past)) stock c (answerTo o packed c) (told-to o packed (reached o (g .past)) c)
 
       -- Its line, and with it the lines so far.
       abbrev printing : Answer
@@ -106,7 +109,7 @@ module _ {stream words out₀ out rest : List ℕ} {done at : ℕ} (g : Listing 
       line-few : length (answerLine printing) ≤ mostOfALine
       line-few =
           rw told
-          (answer-line-few o packed (reached o (g .past)) stock (done + 1) (omega (arith, listing-index)) c (answerTo o packed c) (told-to o packed (reached o (g .past)) c))
+          (answer-line-few o packed (reached o (g .past)) stock (in-limits o (ok .opening-good) .capacity .1) (done + 1) (omega (arith, listing-index)) c (answerTo o packed c) (told-to o packed (reached o (g .past)) c))
 
       lines-more : lines (answers o (g .past ++ c ∷ [])) ≡ lines (answers o (g .past)) ++ answerLine printing
       unfolding flatten
@@ -119,7 +122,7 @@ module _ {stream words out₀ out rest : List ℕ} {done at : ℕ} (g : Listing 
       listing-room = omega (arith, line-few, g .few, g .from .room, listing-same, listing-index)
 
       pub listing-next : (out′ rest′ : List ℕ) (end : ℕ) → Wrote out at (answerLine printing) end out′ → rest′ ≡ drop (w + 1) rest
-          → Listing stream words out₀ out′ rest′ (done + 1) end
+          → Listing stream words free out₀ out′ rest′ (done + 1) end
       listing-next out′ rest′ end wrote b = record {
         from = g .from;
         past = g .past ++ c ∷ [];

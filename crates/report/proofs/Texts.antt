@@ -8,7 +8,7 @@ use lib.ListN.{length, take, drop, length-append}
 use lib.Seq.{length-take-le}
 use borrow.Author.Tests.{lt-ltb, le-ltb}
 use Rattle.packing.specs.declared.{Opening.Opening, Command.Command, StreamReason.StreamReason, StreamResult.StreamResult}
-use Rattle.packing.specs.Refusals.{streamNumber}
+use Rattle.packing.specs.Refusals.{word, freeUnits, streamNumber}
 use Rattle.packing.specs.Bins.{opened}
 use Rattle.packing.specs.Streams.{Read, accepted, refused, verdict}
 use Rattle.packing.specs.Limits.{mostCommands}
@@ -59,13 +59,23 @@ module _ (made : Opening → List Command → List ℕ) (stream : List ℕ) wher
 
 -- What is returned of an accepted stream tells that it is one, its items and its bins.
 module _ (stream : List ℕ) (items bins : ℕ) (e : StreamResult.Accepted items bins ≡ result (verdict stream mostCommands)) where
-  -- With its words and room for each line, an accepted stream can be listed.
-  pub listable : (words row out : List ℕ) → words ≡ rowAtExit (verdict stream mostCommands) row → mostOfAnswers ≤ length out → Listable stream words out
-  listable words row out w h = go (verdict stream mostCommands) refl e
+  -- With its words in both rows and room for each line, an accepted stream can be listed.
+  pub listable : (words row free freeRow out : List ℕ) → words ≡ rowAtExit word (verdict stream mostCommands) row
+      → free ≡ rowAtExit freeUnits (verdict stream mostCommands) freeRow → mostOfAnswers ≤ length out → Listable stream words free out
+  listable words row free freeRow out w f h = go (verdict stream mostCommands) refl e
     where
-      go : (r : Read) → verdict stream mostCommands ≡ r → StreamResult.Accepted items bins ≡ result r → Listable stream words out
+      go : (r : Read) → verdict stream mostCommands ≡ r → StreamResult.Accepted items bins ≡ result r → Listable stream words free out
       go (accepted o cs) p q =
-          record { opening = o; commands = cs; accepts = p; others = drop (length cs) row; answers = w ∙ ap (λ (r : Read). rowAtExit r row) p; room = h }
+          record {
+            opening = o;
+            commands = cs;
+            accepts = p;
+            others = drop (length cs) row;
+            answers = w ∙ ap (λ (r : Read). rowAtExit word r row) p;
+            other-frees = drop (length cs) freeRow;
+            frees = f ∙ ap (λ (r : Read). rowAtExit freeUnits r freeRow) p;
+            room = h;
+          }
       go (refused reason offset) p q = clash (cc)
 
   module _ (o : Opening) (cs : List Command) (accepts : verdict stream mostCommands ≡ accepted o cs) where
@@ -83,9 +93,10 @@ module _ (stream : List ℕ) (items bins : ℕ) (e : StreamResult.Accepted items
     totals-few =
         let ok = accepted-whole mostCommands o cs stream accepts in
         let stock = in-limits o (ok .opening-good) .stock .1 in
-        line-few (code "T") 3 2 items bins
-        (omega (arith, items-are, placements-few o cs, ok .commands-few))
-        (omega (arith, bins-are, reached o cs .stock-lasts, stock))
+        omega (
+          arith,
+          line-few (code "T") 3 2 items bins (omega (arith, items-are, placements-few o cs, ok .commands-few)) (omega (arith, bins-are, reached o cs .stock-lasts, stock)),
+        )
 
     pub printed-accepted : length stream ≤ mostBytes → printed stream ≡ lines (answers o cs) ++ line (code "T") (items ∷ bins ∷ [])
     unfolding printed

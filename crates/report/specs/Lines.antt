@@ -13,9 +13,10 @@ use Rattle.packing.specs.Streams.{Read, accepted, refused, verdict}
 use Rattle.packing.specs.Run.{answers, packing, placements}
 use Rattle.text.specs.Lines.{line}
 
--- "`P` command cartridge; `C` command count; `R` command refusal": by what the command of this number comes to.
+-- "`P` command cartridge; `C` command count; `R` command refusal", and "`P` lines gain the figure at their end": by what the command of this number
+-- comes to.
 abbrev pub lineOf : (number : ℕ) → Outcome → List ℕ
-lineOf number (Placed bin) = line (code "P") (number ∷ bin ∷ [])
+lineOf number (Placed bin free) = line (code "P") (number ∷ bin ∷ free ∷ [])
 lineOf number (Counted opened) = line (code "C") (number ∷ opened ∷ [])
 lineOf number (Refused reason) = line (code "R") (number ∷ itemNumber reason ∷ [])
 
@@ -57,9 +58,9 @@ printed stream = printing answersText stream
 abbrev pub mostOfARefusal : ℕ
 mostOfARefusal = 25
 
--- No line of an answer or of the totals is longer than this ("P 4096 512" and its newline), and so not the lines of all answers.
+-- No line of an answer or of the totals is longer than this ("P 4096 512 16777215" and its newline), and so not the lines of all answers.
 abbrev pub mostOfALine : ℕ
-mostOfALine = 11
+mostOfALine = 20
 
 abbrev pub mostOfAnswers : ℕ
 mostOfAnswers = mostOfALine * mostCommands

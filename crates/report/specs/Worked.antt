@@ -1,4 +1,4 @@
--- "Worked shelves": what is printed of the sample of document 01, whole, and of the shortest streams.
+-- "Worked shelves": what is printed of the sample of document 01, whole, "amended by that column", and of the shortest streams.
 use mathlib.Core.Path.{_≡_, refl}
 use mathlib.Core.List.{List, [], _∷_, map, flatten}
 use Prim.Native.Nat.{ℕ}
@@ -22,7 +22,7 @@ bytes (c before s) = code c ∷ bytes s
 -- Streams beside what is printed of them: the sample, an opening alone, and no stream at all.
 unfoldable pub table : List (List ℕ × String)
 table =
-    (sample, "P 1 1\nP 2 2\nP 3 2\nP 4 3\nP 5 3\nP 6 4\nP 7 1\nR 8 10\nC 9 4\nP 10 4\nT 8 4\n") ∷
+    (sample, "P 1 1 25\nP 2 2 38\nP 3 2 16\nP 4 3 38\nP 5 3 16\nP 6 4 38\nP 7 1 3\nR 8 10\nC 9 4\nP 10 4 16\nT 8 4\n") ∷
     (0x01 ∷ 0 ∷ 0 ∷ 0 ∷ 0x3C ∷ 0 ∷ 4 ∷ 6 ∷ [], "T 0 0\n") ∷
     ([], "X 1 0\n") ∷
     []

@@ -1,4 +1,4 @@
-// The lines of the answers to an accepted stream: its commands are walked once more, each beside its answer word.
+// The lines of the answers to an accepted stream: its commands are walked once more, each beside its words in both rows.
 use limits::MOST_COMMANDS;
 use packing::Answer;
 use packing::Outcome;
@@ -14,24 +14,33 @@ fn put_answer(out: &mut [u8], at: usize, answer: Answer) -> usize
     let number = answer.number;
     let outcome = answer.outcome;
     match outcome {
-        Outcome::Placed(bin) => {
+        Outcome::Placed { bin, free } => {
             let bin = bin as usize;
-            text::put_line(out, at, b'P', number, bin)
+            let free = free as usize;
+            let figures = [number, bin, free];
+            text::put_line(out, at, b'P', &figures)
         }
         Outcome::Counted(opened) => {
             let opened = opened as usize;
-            text::put_line(out, at, b'C', number, opened)
+            let figures = [number, opened];
+            text::put_line(out, at, b'C', &figures)
         }
         Outcome::Refused(reason) => {
             let refusal = refusals::item_number(reason) as usize;
-            text::put_line(out, at, b'R', number, refusal)
+            let figures = [number, refusal];
+            text::put_line(out, at, b'R', &figures)
         }
     }
 }
 
-// The lines of all commands, in their order, from the front of the row on. The word of a command's number tells its answer.
-pub fn put_answers(stream: &[u8], words: &[u16; MOST_COMMANDS], out: &mut [u8]) -> usize
-    requires { ⌜ Listable (now stream) (now words) (now out) ⌝ }
+// The lines of all commands, in their order, from the front of the row on. The words of a command's number tell its answer.
+pub fn put_answers(
+    stream: &[u8],
+    words: &[u16; MOST_COMMANDS],
+    free: &[u32; MOST_COMMANDS],
+    out: &mut [u8],
+) -> usize
+    requires { ⌜ Listable (now stream) (now words) (now free) (now out) ⌝ }
     ensures { λ r. ⌜ Listed (now (stream .entry)) (now (out .entry)) r (now (out .exit)) ⌝ }
 {
     let mut rest = reader::behind_opening(stream);
@@ -42,7 +51,8 @@ pub fn put_answers(stream: &[u8], words: &[u16; MOST_COMMANDS], out: &mut [u8]) 
         let used = front.width + 1;
         let command = front.command;
         let word = words[done];
-        let outcome = refusals::outcome_of(command, word);
+        let units = free[done];
+        let outcome = refusals::outcome_of(command, word, units);
         let number = done + 1;
         let answer = Answer { number, outcome };
         at = put_answer(out, at, answer);

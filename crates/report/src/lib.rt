@@ -11,7 +11,7 @@ ghost use lib.ListN.{length, drop};
 ghost use Rattle.report.specs.Lines.{printed};
 
 // No line of an answer or of the totals has more bytes.
-const LINE: usize = 11;
+const LINE: usize = 20;
 
 // Enough for every text: the lines of all answers, and the totals.
 pub const N: usize = LINE * MOST_COMMANDS + LINE;
@@ -25,11 +25,13 @@ pub fn print(stream: &[u8], out: &mut [u8; N]) -> usize
         return refused::put_overlong(out);
     }
     let mut words = [0u16; MOST_COMMANDS];
-    match stream::shelve(stream, &mut words) {
+    let mut free = [0u32; MOST_COMMANDS];
+    match stream::shelve(stream, &mut words, &mut free) {
         StreamResult::Refused { reason, offset } => refused::put_refusal(out, reason, offset),
         StreamResult::Accepted { items, opened } => {
-            let end = answers::put_answers(stream, &words, out);
-            text::put_line(out, end, b'T', items, opened)
+            let end = answers::put_answers(stream, &words, &free, out);
+            let figures = [items, opened];
+            text::put_line(out, end, b'T', &figures)
         }
     }
 }

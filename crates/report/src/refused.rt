@@ -14,7 +14,8 @@ pub fn put_refusal(out: &mut [u8], reason: StreamReason, offset: usize) -> usize
     ensures { λ r. ⌜ AtFront (now (out .entry)) (refusal reason offset) r (now (out .exit)) ⌝ }
 {
     let number = refusals::stream_number(reason) as usize;
-    text::put_line(out, 0, b'X', number, offset)
+    let figures = [number, offset];
+    text::put_line(out, 0, b'X', &figures)
 }
 
 // The line of a stream with more bytes.
@@ -22,5 +23,6 @@ pub fn put_overlong(out: &mut [u8]) -> usize
     requires { ⌜ mostOfARefusal ≤ length (now out) ⌝ }
     ensures { λ r. ⌜ AtFront (now (out .entry)) overlong r (now (out .exit)) ⌝ }
 {
-    text::put_short_line(out, 0, b'L', MOST_BYTES)
+    let figures = [MOST_BYTES];
+    text::put_line(out, 0, b'L', &figures)
 }

@@ -8,10 +8,10 @@ use lib.ListN.{length}
 use Rattle.packing.specs.declared.{Opening.Opening, Command.Command}
 use Rattle.packing.specs.Prelude.{total}
 use Rattle.packing.specs.Bins.{Bin, load}
-use Rattle.packing.specs.Limits.{openingGood, mostCapacity, mostCommands}
+use Rattle.packing.specs.Limits.{openingGood, mostCommands}
 use Rattle.packing.specs.Run.{packing, placements}
 use Rattle.packing.proofs.Tests.{each-cons}
-use Rattle.packing.proofs.Limits.{in-limits, within-limits}
+use Rattle.packing.proofs.Limits.{in-limits}
 use Rattle.packing.proofs.Moves.{trace}
 use Rattle.packing.proofs.Putting.{weightOf}
 use Rattle.packing.proofs.Reached.{reached}
@@ -39,7 +39,7 @@ module _ (o : Opening) (cs : List Command) (good : openingGood o ≡ true) (few 
       record {
         number-few = omega arith;
         class-few = omega (arith, reached o cs .bins-sound b m .to-class-4);
-        capacity-few = omega (arith, within-limits 1 mostCapacity (o .capacity) (in-limits o good .capacity-good) .1);
+        capacity-few = omega (arith, in-limits o good .capacity .1);
         free-few = omega arith;
         held-few = omega (
           arith,

@@ -30,8 +30,9 @@ pub fn print(stream: &[u8], out: &mut [u8; N]) -> usize
         return report::refused::put_overlong(out);
     }
     let mut words = [0u16; MOST_COMMANDS];
+    let mut free = [0u32; MOST_COMMANDS];
     let mut ledger = [[0u32; COLUMNS]; BINS];
-    match stream::record(stream, &mut words, &mut ledger) {
+    match stream::record(stream, &mut words, &mut free, &mut ledger) {
         StreamResult::Refused { reason, offset } => {
             report::refused::put_refusal(out, reason, offset)
         }

@@ -3,10 +3,11 @@ ghost use mathlib.Core.Path.{_≡_};
 ghost use mathlib.Core.List.{_++_};
 ghost use lib.ListN.{length, drop};
 ghost use Rattle.packing.specs.Limits.{mostCommands};
-ghost use Rattle.packing.specs.Streams.{verdict};
+ghost use Rattle.packing.specs.Refusals.{word, freeUnits};
+ghost use Rattle.packing.specs.Streams.{wordsLent, verdict};
 ghost use Rattle.packing.specs.Run.{result, rowAtExit};
 ghost use Rattle.packing.specs.Plans.{planOf, check};
-ghost use Rattle.packing.specs.Claims.{HoldsAnswered, NeverOverfull, LoadsAddUp, Counts};
+ghost use Rattle.packing.specs.Claims.{HoldsAnswered, NeverOverfull, FreeUnits, LoadsAddUp, Counts};
 ghost use Rattle.worst_case.specs.OwnPlan.{OwnPlan};
 ghost use Rattle.worst_case.specs.WorstCase.{WorstCase};
 ghost use Rattle.sheet.specs.Sheet.{sheet};
@@ -16,18 +17,20 @@ ghost use Rattle.codes.specs.Codes.{streamCode, FiguresFit, planCode, PlaceFits
 
 // Shelves the items of a command stream (`shelf::shelve`).
 #[no_mangle]
-pub extern "C" fn shelve_stream(stream: &[u8], answers: &mut [u16]) -> u64
-    ensures code { λ r. ⌜ r ≡ streamCode (result (verdict (now (stream .entry)) (length (now (answers .entry))))) ⌝ }
-    ensures fits { λ _. ⌜ FiguresFit (result (verdict (now (stream .entry)) (length (now (answers .entry))))) ⌝ }
-    ensures row { λ _. ⌜ now (answers .exit) ≡ rowAtExit (verdict (now (stream .entry)) (length (now (answers .entry)))) (now (answers .entry)) ⌝ }
-    ensures counts { λ _. ⌜ WhenAccepted (now (stream .entry)) (length (now (answers .entry))) Counts ⌝ }
-    ensures holds_answered { λ _. ⌜ WhenAccepted (now (stream .entry)) (length (now (answers .entry))) HoldsAnswered ⌝ }
-    ensures never_overfull { λ _. ⌜ WhenAccepted (now (stream .entry)) (length (now (answers .entry))) NeverOverfull ⌝ }
-    ensures loads_add_up { λ _. ⌜ WhenAccepted (now (stream .entry)) (length (now (answers .entry))) LoadsAddUp ⌝ }
-    ensures own_plan_passes { λ _. ⌜ WhenAccepted (now (stream .entry)) (length (now (answers .entry))) OwnPlan ⌝ }
-    ensures worst_case { λ _. ⌜ WhenAccepted (now (stream .entry)) (length (now (answers .entry))) WorstCase ⌝ }
+pub extern "C" fn shelf_stream(stream: &[u8], answers: &mut [u16], free: &mut [u32]) -> u64
+    ensures code { λ r. ⌜ r ≡ streamCode (result (verdict (now (stream .entry)) (wordsLent (now (answers .entry)) (now (free .entry))))) ⌝ }
+    ensures fits { λ _. ⌜ FiguresFit (result (verdict (now (stream .entry)) (wordsLent (now (answers .entry)) (now (free .entry))))) ⌝ }
+    ensures answers { λ _. ⌜ now (answers .exit) ≡ rowAtExit word (verdict (now (stream .entry)) (wordsLent (now (answers .entry)) (now (free .entry)))) (now (answers .entry)) ⌝ }
+    ensures free { λ _. ⌜ now (free .exit) ≡ rowAtExit freeUnits (verdict (now (stream .entry)) (wordsLent (now (answers .entry)) (now (free .entry)))) (now (free .entry)) ⌝ }
+    ensures counts { λ _. ⌜ WhenAccepted (now (stream .entry)) (wordsLent (now (answers .entry)) (now (free .entry))) Counts ⌝ }
+    ensures holds_answered { λ _. ⌜ WhenAccepted (now (stream .entry)) (wordsLent (now (answers .entry)) (now (free .entry))) HoldsAnswered ⌝ }
+    ensures never_overfull { λ _. ⌜ WhenAccepted (now (stream .entry)) (wordsLent (now (answers .entry)) (now (free .entry))) NeverOverfull ⌝ }
+    ensures free_units { λ _. ⌜ WhenAccepted (now (stream .entry)) (wordsLent (now (answers .entry)) (now (free .entry))) FreeUnits ⌝ }
+    ensures loads_add_up { λ _. ⌜ WhenAccepted (now (stream .entry)) (wordsLent (now (answers .entry)) (now (free .entry))) LoadsAddUp ⌝ }
+    ensures own_plan_passes { λ _. ⌜ WhenAccepted (now (stream .entry)) (wordsLent (now (answers .entry)) (now (free .entry))) OwnPlan ⌝ }
+    ensures worst_case { λ _. ⌜ WhenAccepted (now (stream .entry)) (wordsLent (now (answers .entry)) (now (free .entry))) WorstCase ⌝ }
 {
-    let r = crate::shelve(stream, answers);
+    let r = crate::shelve(stream, answers, free);
     codes::stream_code(r)
 }
 
@@ -47,7 +50,7 @@ pub extern "C" fn shelf_sheet(stream: &[u8], out: &mut [u8; sheet::N]) -> u64
 
 // Checks a plan in two rows (`shelf::check_rows`): 0 is passed.
 #[no_mangle]
-pub extern "C" fn check_plan(
+pub extern "C" fn shelf_check_plan(
     sizes: &[u32],
     bins: &[u32],
     items: &[u32],

@@ -8,11 +8,11 @@ ghost use mathlib.Core.Path.{_≡_};
 ghost use mathlib.Core.List.{_++_};
 ghost use lib.ListN.{length, drop};
 ghost use Rattle.packing.specs.Limits.{mostCommands};
-ghost use Rattle.packing.specs.Refusals.{streamGives, planGives};
-ghost use Rattle.packing.specs.Streams.{verdict};
+ghost use Rattle.packing.specs.Refusals.{word, freeUnits, streamGives, planGives};
+ghost use Rattle.packing.specs.Streams.{wordsLent, verdict};
 ghost use Rattle.packing.specs.Run.{result, rowAtExit};
 ghost use Rattle.packing.specs.Plans.{planOf, check};
-ghost use Rattle.packing.specs.Claims.{HoldsAnswered, NeverOverfull, LoadsAddUp, Counts};
+ghost use Rattle.packing.specs.Claims.{HoldsAnswered, NeverOverfull, FreeUnits, LoadsAddUp, Counts};
 ghost use Rattle.worst_case.specs.PlanFits.{Exact};
 ghost use Rattle.worst_case.specs.OwnPlan.{OwnPlan};
 ghost use Rattle.worst_case.specs.WorstCase.{WorstCase};
@@ -20,21 +20,23 @@ ghost use Rattle.sheet.specs.Sheet.{sheet};
 ghost use Rattle.sheet.specs.Claims.{LinesOf40, OneRowEach, SheetLoadsAddUp, FreeAndLoad, PagesOpen};
 ghost use Rattle.shelf.specs.Accepted.{WhenAccepted};
 
-// Shelves the items of a command stream, and answers each command by a word of the row that the caller lends. Of the packing so made, if no
-// refusal stops the stream: bin n holds the items answered n, and no bin is overfull; the loads add up to the sizes accepted; the checker passes
-// the plan of its own answers; and (demand 3) after each command 3 times the number opened is at most 5k + 15, for every plan that passes and
-// uses k bins.
-pub fn shelve(stream: &[u8], answers: &mut [u16]) -> StreamResult
-    ensures result { λ r. ⌜ streamGives r ≡ streamGives (result (verdict (now (stream .entry)) (length (now (answers .entry))))) ⌝ }
-    ensures row { λ _. ⌜ now (answers .exit) ≡ rowAtExit (verdict (now (stream .entry)) (length (now (answers .entry)))) (now (answers .entry)) ⌝ }
-    ensures counts { λ _. ⌜ WhenAccepted (now (stream .entry)) (length (now (answers .entry))) Counts ⌝ }
-    ensures holds_answered { λ _. ⌜ WhenAccepted (now (stream .entry)) (length (now (answers .entry))) HoldsAnswered ⌝ }
-    ensures never_overfull { λ _. ⌜ WhenAccepted (now (stream .entry)) (length (now (answers .entry))) NeverOverfull ⌝ }
-    ensures loads_add_up { λ _. ⌜ WhenAccepted (now (stream .entry)) (length (now (answers .entry))) LoadsAddUp ⌝ }
-    ensures own_plan_passes { λ _. ⌜ WhenAccepted (now (stream .entry)) (length (now (answers .entry))) OwnPlan ⌝ }
-    ensures worst_case { λ _. ⌜ WhenAccepted (now (stream .entry)) (length (now (answers .entry))) WorstCase ⌝ }
+// Shelves the items of a command stream, and answers each command by a word of each of the two rows that the caller lends. Of the packing so made, if
+// no refusal stops the stream: bin n holds the items answered n, and no bin is overfull; the free units beside an answer are those of its bin, until
+// the bin is answered again; the loads add up to the sizes accepted; the checker passes the plan of its own answers; and (demand 3) after each command
+// 3 times the number opened is at most 5k + 15, for every plan that passes and uses k bins.
+pub fn shelve(stream: &[u8], answers: &mut [u16], free: &mut [u32]) -> StreamResult
+    ensures result { λ r. ⌜ streamGives r ≡ streamGives (result (verdict (now (stream .entry)) (wordsLent (now (answers .entry)) (now (free .entry))))) ⌝ }
+    ensures answers { λ _. ⌜ now (answers .exit) ≡ rowAtExit word (verdict (now (stream .entry)) (wordsLent (now (answers .entry)) (now (free .entry)))) (now (answers .entry)) ⌝ }
+    ensures free { λ _. ⌜ now (free .exit) ≡ rowAtExit freeUnits (verdict (now (stream .entry)) (wordsLent (now (answers .entry)) (now (free .entry)))) (now (free .entry)) ⌝ }
+    ensures counts { λ _. ⌜ WhenAccepted (now (stream .entry)) (wordsLent (now (answers .entry)) (now (free .entry))) Counts ⌝ }
+    ensures holds_answered { λ _. ⌜ WhenAccepted (now (stream .entry)) (wordsLent (now (answers .entry)) (now (free .entry))) HoldsAnswered ⌝ }
+    ensures never_overfull { λ _. ⌜ WhenAccepted (now (stream .entry)) (wordsLent (now (answers .entry)) (now (free .entry))) NeverOverfull ⌝ }
+    ensures free_units { λ _. ⌜ WhenAccepted (now (stream .entry)) (wordsLent (now (answers .entry)) (now (free .entry))) FreeUnits ⌝ }
+    ensures loads_add_up { λ _. ⌜ WhenAccepted (now (stream .entry)) (wordsLent (now (answers .entry)) (now (free .entry))) LoadsAddUp ⌝ }
+    ensures own_plan_passes { λ _. ⌜ WhenAccepted (now (stream .entry)) (wordsLent (now (answers .entry)) (now (free .entry))) OwnPlan ⌝ }
+    ensures worst_case { λ _. ⌜ WhenAccepted (now (stream .entry)) (wordsLent (now (answers .entry)) (now (free .entry))) WorstCase ⌝ }
 {
-    stream::shelve(stream, answers)
+    stream::shelve(stream, answers, free)
 }
 
 // The vault sheet of a stream, at the front of the bytes that the caller lends. Of an accepted stream: each line has 40 characters; every opened bin

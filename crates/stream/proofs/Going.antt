@@ -5,8 +5,8 @@ use Prim.Native.Nat.{ℕ, _+_, _-_, _≤_, _<_}
 use native.Mathlib.Omega.{arith}
 use lib.ListN.{length, drop, set}
 use Rattle.packing.specs.declared.{Opening.Opening, Command.Command, Answer.Answer, StreamResult.StreamResult}
-use Rattle.packing.specs.Refusals.{word}
-use Rattle.packing.specs.Streams.{behindOpening, whole, frontOf, WholeFront, verdict}
+use Rattle.packing.specs.Refusals.{word, freeUnits}
+use Rattle.packing.specs.Streams.{Read, behindOpening, whole, frontOf, WholeFront, wordsLent, verdict}
 use Rattle.packing.specs.Run.{packing, result, rowAtExit}
 use Rattle.packing.specs.Claims.{WholeStream}
 use Rattle.packing.proofs.Accepted.{accepted-whole}
@@ -18,27 +18,32 @@ use Rattle.engine.specs.Done.{Done}
 use Rattle.stream.specs.Running.{Runnable, Ran}
 use Rattle.stream.specs.Recorded.{Recorded}
 
+-- What the call promises of the reading: its result, both rows and the ledger.
+abbrev pub Given : Read → (row freeRow : List ℕ) → StreamResult → (words free : List ℕ) (ledger : List (List ℕ)) → Type 0
+Given v row freeRow r words free ledger =
+    (r ≡ result v) × ((words ≡ rowAtExit word v row) × ((free ≡ rowAtExit freeUnits v freeRow) × Recorded v ledger))
+
 pub runnable-whole : {stream : List ℕ} {words : ℕ} {o : Opening} (r : Runnable stream words o) → WholeStream stream words o (r .commands)
 runnable-whole {stream = stream} {words = words} {o = o} r = accepted-whole words o (r .commands) stream (r .accepts)
 
-pub record Going (o : Opening) (shape : Shape) (stream row words trees : List ℕ) (ledger : List (List ℕ)) (rest : List ℕ) (c : Counters) (done : ℕ) : Type 0 where
-  pub runs : Runnable stream (length row) o
+pub record Going (o : Opening) (shape : Shape) (stream row freeRow words free trees : List ℕ) (ledger : List (List ℕ)) (rest : List ℕ) (c : Counters) (done : ℕ) : Type 0 where
+  pub runs : Runnable stream (wordsLent row freeRow) o
   pub sound : Sound o shape (store trees ledger c)
-  pub answering : Answering o stream row (Represents o (store trees ledger c)) words rest (c .items) done
+  pub answering : Answering o stream row freeRow (Represents o (store trees ledger c)) words free rest (c .items) done
 
-pub going-start : {o : Opening} {shape : Shape} {stream row trees : List ℕ} {ledger : List (List ℕ)} → Runnable stream (length row) o
-    → EmptyStore o shape trees ledger → (rest : List ℕ) → rest ≡ behindOpening stream → Going o shape stream row row trees ledger rest atOpening 0
+pub going-start : {o : Opening} {shape : Shape} {stream row freeRow trees : List ℕ} {ledger : List (List ℕ)} → Runnable stream (wordsLent row freeRow) o
+    → EmptyStore o shape trees ledger → (rest : List ℕ) → rest ≡ behindOpening stream → Going o shape stream row freeRow row freeRow trees ledger rest atOpening 0
 going-start r e rest b = record { runs = r; sound = e .sound; answering = answering-start (runnable-whole r) rest b (e .represents) }
 
-module _ {o : Opening} {shape : Shape} {stream row words trees : List ℕ} {ledger : List (List ℕ)} {rest : List ℕ} {c : Counters} {done : ℕ}
-    (g : Going o shape stream row words trees ledger rest c done) where
-  w : WholeStream stream (length row) o (g .runs .commands)
+module _ {o : Opening} {shape : Shape} {stream row freeRow words free trees : List ℕ} {ledger : List (List ℕ)} {rest : List ℕ} {c : Counters} {done : ℕ}
+    (g : Going o shape stream row freeRow words free trees ledger rest c done) where
+  w : WholeStream stream (wordsLent row freeRow) o (g .runs .commands)
   w = runnable-whole (g .runs)
 
   pub going-few : done ≤ 4096
   going-few = answering-few w (g .answering)
 
-  pub going-same : length words ≡ length row
+  pub going-same : (length words ≡ length row) × (length free ≡ length freeRow)
   going-same = answering-same w (g .answering)
 
   -- At most 4,096 items are placed, so one more can be counted.
@@ -49,14 +54,15 @@ module _ {o : Opening} {shape : Shape} {stream row words trees : List ℕ} {ledg
   going-whole some = answering-whole w (g .answering) some
 
   module _ (command : Command) (width : ℕ) (f : frontOf rest ≡ whole command width) where
-    pub going-word : done < length words
+    pub going-word : (done < length words) × (done < length free)
     going-word = answering-word w (g .answering) command width f
 
-    -- The word of the answer's own number is the next.
-    pub going-next : (u : List ℕ) (ledger′ : List (List ℕ)) (behind : List ℕ) (r : Answer) (d : Counters) (v : ℕ)
-        → Done o shape (store trees ledger c) (done + 1) command r (store u ledger′ d) → v ≡ word (r .outcome)
-        → behind ≡ drop (width + 1) rest → Going o shape stream row (set words (r .number - 1) v) u ledger′ behind d (r .number)
-    going-next u ledger′ behind r d v step e b =
+    -- The words of the answer's own number are the next.
+    pub going-next : (u : List ℕ) (ledger′ : List (List ℕ)) (behind : List ℕ) (r : Answer) (d : Counters) (v f′ : ℕ)
+        → Done o shape (store trees ledger c) (done + 1) command r (store u ledger′ d) → v ≡ word (r .outcome) → f′ ≡ freeUnits (r .outcome)
+        → behind ≡ drop (width + 1) rest
+        → Going o shape stream row freeRow (set words (r .number - 1) v) (set free (r .number - 1) f′) u ledger′ behind d (r .number)
+    going-next u ledger′ behind r d v f′ step e ef b =
         let place : r .number - 1 ≡ done = omega (arith, step .numbered) in
         let m = step .model (packing o (g .answering .past)) (g .answering .stands) in
         rw (place, step .numbered)
@@ -64,23 +70,23 @@ module _ {o : Opening} {shape : Shape} {stream row words trees : List ℕ} {ledg
           runs = g .runs;
           sound = step .sound;
           answering =
-              answering-next w (g .answering) command width f (r .outcome) v (d .items) behind (m .answered) e (m .represents)
+              answering-next w (g .answering) command width f (r .outcome) v f′ (d .items) behind (m .answered) e ef (m .represents)
               (step .items) b;
         })
 
-  pub going-end : length rest ≤ 0 → Ran stream row o words trees ledger c
+  pub going-end : length rest ≤ 0 → Ran stream row freeRow o words free trees ledger c
   going-end none =
       let all = answering-end w (g .answering) none in
       record {
         commands = g .runs .commands;
         accepts = g .runs .accepts;
         answers = all .words-are;
+        frees = all .free-are;
         items = all .items-are;
         represents = all .stands;
       }
 
--- What the call returns, and leaves in the row and in the ledger.
-pub ran-result : {stream row words trees : List ℕ} {ledger : List (List ℕ)} {o : Opening} {c : Counters} → Ran stream row o words trees ledger c
-    → (StreamResult.Accepted (c .items) (c .opened) ≡ result (verdict stream (length row)))
-    × ((words ≡ rowAtExit (verdict stream (length row)) row) × Recorded (verdict stream (length row)) ledger)
-ran-result r = (rw (r .accepts, r .items, r .represents .bins), (rw (r .accepts) (r .answers), rw (r .accepts) (r .represents .records)))
+-- What the call returns, and leaves in the rows and in the ledger.
+pub ran-result : {stream row freeRow words free trees : List ℕ} {ledger : List (List ℕ)} {o : Opening} {c : Counters}
+    → Ran stream row freeRow o words free trees ledger c → Given (verdict stream (wordsLent row freeRow)) row freeRow (StreamResult.Accepted (c .items) (c .opened)) words free ledger
+ran-result r = (rw (r .accepts, r .items, r .represents .bins), (rw (r .accepts) (r .answers), (rw (r .accepts) (r .frees), rw (r .accepts) (r .represents .records))))

@@ -8,28 +8,32 @@ use packing::StreamResult;
 use reader::Summary;
 use tournament::ROW_WORDS;
 ghost use mathlib.Core.Path.{_≡_};
-ghost use lib.ListN.{length, replicate};
-ghost use Rattle.packing.specs.Streams.{verdict};
+ghost use lib.ListN.{replicate};
+ghost use Rattle.packing.specs.Refusals.{word, freeUnits};
+ghost use Rattle.packing.specs.Streams.{wordsLent, verdict};
 ghost use Rattle.packing.specs.Run.{result, rowAtExit};
 ghost use Rattle.ledger.specs.Rows.{places, blank};
 ghost use Rattle.stream.specs.Recorded.{Recorded};
 
-// Reads a stream whole, and then answers its commands into the row of words that the caller lends, and records their packing in a ledger that the
-// caller lends blank. A refused stream writes nothing.
+// Reads a stream whole, and then answers its commands into the two rows that the caller lends, and records their packing in a ledger that the caller
+// lends blank. A refused stream writes nothing.
 pub fn record(
     stream: &[u8],
     answers: &mut [u16],
+    free: &mut [u32],
     ledger: &mut [[u32; COLUMNS]; BINS],
 ) -> StreamResult
     requires { ⌜ now ledger ≡ replicate places blank ⌝ }
-    ensures result { λ r. ⌜ r ≡ result (verdict (now (stream .entry)) (length (now (answers .entry)))) ⌝ }
-    ensures row { λ _. ⌜ now (answers .exit) ≡ rowAtExit (verdict (now (stream .entry)) (length (now (answers .entry)))) (now (answers .entry)) ⌝ }
-    ensures recorded { λ _. ⌜ Recorded (verdict (now (stream .entry)) (length (now (answers .entry)))) (now (ledger .exit)) ⌝ }
+    ensures result { λ r. ⌜ r ≡ result (verdict (now (stream .entry)) (wordsLent (now (answers .entry)) (now (free .entry)))) ⌝ }
+    ensures answers { λ _. ⌜ now (answers .exit) ≡ rowAtExit word (verdict (now (stream .entry)) (wordsLent (now (answers .entry)) (now (free .entry)))) (now (answers .entry)) ⌝ }
+    ensures free { λ _. ⌜ now (free .exit) ≡ rowAtExit freeUnits (verdict (now (stream .entry)) (wordsLent (now (answers .entry)) (now (free .entry)))) (now (free .entry)) ⌝ }
+    ensures recorded { λ _. ⌜ Recorded (verdict (now (stream .entry)) (wordsLent (now (answers .entry)) (now (free .entry)))) (now (ledger .exit)) ⌝ }
 {
     match reader::validate(stream) {
         Summary::Refused(reason, offset) => StreamResult::Refused { reason, offset },
         Summary::Accepted(opening, count) => {
-            if answers.len() < count {
+            let words = limits::shorter(answers.len(), free.len());
+            if words < count {
                 let offset = stream.len();
                 return StreamResult::Refused {
                     reason: StreamReason::TooFewWords,
@@ -38,7 +42,7 @@ pub fn record(
             }
             let shape = tournament::shape_of(opening.stock);
             let mut trees = [0u32; ROW_WORDS];
-            let totals = run::answer_all(stream, opening, shape, &mut trees, ledger, answers);
+            let totals = run::answer_all(stream, opening, shape, &mut trees, ledger, answers, free);
             let items = totals.items as usize;
             let opened = totals.opened as usize;
             StreamResult::Accepted { items, opened }
@@ -47,10 +51,11 @@ pub fn record(
 }
 
 // The same where nobody asks for the packing: the ledger lives here.
-pub fn shelve(stream: &[u8], answers: &mut [u16]) -> StreamResult
-    ensures result { λ r. ⌜ r ≡ result (verdict (now (stream .entry)) (length (now (answers .entry)))) ⌝ }
-    ensures row { λ _. ⌜ now (answers .exit) ≡ rowAtExit (verdict (now (stream .entry)) (length (now (answers .entry)))) (now (answers .entry)) ⌝ }
+pub fn shelve(stream: &[u8], answers: &mut [u16], free: &mut [u32]) -> StreamResult
+    ensures result { λ r. ⌜ r ≡ result (verdict (now (stream .entry)) (wordsLent (now (answers .entry)) (now (free .entry)))) ⌝ }
+    ensures answers { λ _. ⌜ now (answers .exit) ≡ rowAtExit word (verdict (now (stream .entry)) (wordsLent (now (answers .entry)) (now (free .entry)))) (now (answers .entry)) ⌝ }
+    ensures free { λ _. ⌜ now (free .exit) ≡ rowAtExit freeUnits (verdict (now (stream .entry)) (wordsLent (now (answers .entry)) (now (free .entry)))) (now (free .entry)) ⌝ }
 {
     let mut ledger = [[0u32; COLUMNS]; BINS];
-    record(stream, answers, &mut ledger)
+    record(stream, answers, free, &mut ledger)
 }

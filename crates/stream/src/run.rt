@@ -6,11 +6,11 @@ use ledger::COLUMNS;
 use packing::Opening;
 use tournament::ROW_WORDS;
 use tournament::Shape;
-ghost use lib.ListN.{length};
+ghost use Rattle.packing.specs.Streams.{wordsLent};
 ghost use Rattle.engine.specs.Store.{EmptyStore};
 ghost use Rattle.stream.specs.Running.{Runnable, Ran};
 
-// Answers every command of a stream that no refusal stops, each by the word of its answer's number.
+// Answers every command of a stream that no refusal stops, each in both rows by the word of its answer's number.
 pub fn answer_all(
     stream: &[u8],
     opening: Opening,
@@ -18,10 +18,11 @@ pub fn answer_all(
     trees: &mut [u32; ROW_WORDS],
     ledger: &mut [[u32; COLUMNS]; BINS],
     answers: &mut [u16],
+    free: &mut [u32],
 ) -> Counters
-    requires runnable { ⌜ Runnable (now stream) (length (now answers)) opening ⌝ }
+    requires runnable { ⌜ Runnable (now stream) (wordsLent (now answers) (now free)) opening ⌝ }
     requires empty { ⌜ EmptyStore opening shape (now trees) (now ledger) ⌝ }
-    ensures { λ r. ⌜ Ran (now (stream .entry)) (now (answers .entry)) opening (now (answers .exit)) (now (trees .exit)) (now (ledger .exit)) r ⌝ }
+    ensures { λ r. ⌜ Ran (now (stream .entry)) (now (answers .entry)) (now (free .entry)) opening (now (answers .exit)) (now (free .exit)) (now (trees .exit)) (now (ledger .exit)) r ⌝ }
 {
     let mut counters = Counters {
         opened: 0,
@@ -40,6 +41,7 @@ pub fn answer_all(
         let outcome = answer.outcome;
         let place = answer.number - 1;
         answers[place] = refusals::word_of(outcome);
+        free[place] = refusals::free_units_of(outcome);
         counters = step.next;
         done = answer.number;
         rest = &rest[used..];

@@ -110,12 +110,17 @@ fn limits() {
     show(b"m 10\n", b"\x01\0\0\0\x3c\0\x04\x0a");
 }
 
-// An opening alone; then answers of each kind: a count before any item, sizes 0, 61 and 4294967295 at capacity 60, and the stock spent.
+// An opening alone; then answers of each kind: a count before any item, sizes 0, 61 and 4294967295 at capacity 60, a bin without a free unit, and the
+// stock spent; the most free units that an item can leave.
 fn answers() {
     show(b"opening alone\n", b"\x01\0\0\0\x3c\0\x04\x06");
     show(
         b"8, 9, 10\n",
         b"\x01\0\0\0\x3c\0\x01\x06\x03\x02\0\0\0\0\x02\0\0\0\x3d\x02\xff\xff\xff\xff\x02\0\0\0\x3c\x02\0\0\0\x3c\x03",
+    );
+    show(
+        b"16777215 free\n",
+        b"\x01\x01\0\0\0\0\x04\x06\x02\0\0\0\x01",
     );
 }
 
@@ -138,7 +143,7 @@ fn commands() {
     show(b"2 before 6, the earlier command\n", front(&s, later));
 }
 
-// As many items as there may be; a stream as long as it may be, and one byte longer.
+// As many items as there may be; a stream as long as it may be, and one byte longer; as many items in one bin, whose lines are longer.
 fn lengths() {
     let mut s = [0u8; SPACE];
     let first = fill(&mut s, 0, 8, b"\x01\0\0\0\x3c\x02\0\x06");
@@ -148,6 +153,9 @@ fn lengths() {
     show(b"32768 bytes\n", front(&s, longest));
     let longer = put(&mut s, longest, 3);
     show(b"32769 bytes\n", front(&s, longer));
+    let first = fill(&mut s, 0, 8, b"\x01\x01\0\0\0\0\x01\x09");
+    let most = fill(&mut s, first, 20480, b"\x02\0\0\0\x01");
+    show_end(b"4096 items of 1\n", front(&s, most), 27);
 }
 
 // Sheets with none opened: an opening alone, and behind it a count and items that are refused. Streams without a sheet: with no opening, and one that

@@ -2,3 +2,4 @@
 pub mod Decimals
 pub mod Lengths
 pub mod Rows
+pub mod Lining

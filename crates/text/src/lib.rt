@@ -37,30 +37,26 @@ fn put_figure(out: &mut [u8], at: usize, n: usize) -> usize
     put_decimal(out, next, n)
 }
 
-// The last figure of a line, and a newline.
-fn put_last(out: &mut [u8], at: usize, n: usize) -> usize
-    requires { ⌜ Room (now out) at (figures (n ∷ [])) ⌝ }
-    ensures { λ r. ⌜ Wrote (now (out .entry)) at (figures (n ∷ [])) r (now (out .exit)) ⌝ }
+// The figures of a line, and a newline.
+fn put_figures(out: &mut [u8], at: usize, numbers: &[usize]) -> usize
+    requires { ⌜ Room (now out) at (figures (now numbers)) ⌝ }
+    ensures { λ r. ⌜ Wrote (now (out .entry)) at (figures (now (numbers .entry))) r (now (out .exit)) ⌝ }
 {
-    let end = put_figure(out, at, n);
+    let mut end = at;
+    let mut done: usize = 0;
+    while done < numbers.len() {
+        let n = numbers[done];
+        end = put_figure(out, end, n);
+        done = done + 1;
+    }
     put_byte(out, end, b'\n')
 }
 
-// A line of one figure.
-pub fn put_short_line(out: &mut [u8], at: usize, letter: u8, n: usize) -> usize
-    requires { ⌜ Room (now out) at (line letter (n ∷ [])) ⌝ }
-    ensures { λ r. ⌜ Wrote (now (out .entry)) at (line letter (n ∷ [])) r (now (out .exit)) ⌝ }
+// A line: a letter and its figures.
+pub fn put_line(out: &mut [u8], at: usize, letter: u8, numbers: &[usize]) -> usize
+    requires { ⌜ Room (now out) at (line letter (now numbers)) ⌝ }
+    ensures { λ r. ⌜ Wrote (now (out .entry)) at (line letter (now (numbers .entry))) r (now (out .exit)) ⌝ }
 {
     let first = put_byte(out, at, letter);
-    put_last(out, first, n)
-}
-
-// A line of two figures.
-pub fn put_line(out: &mut [u8], at: usize, letter: u8, a: usize, b: usize) -> usize
-    requires { ⌜ Room (now out) at (line letter (a ∷ b ∷ [])) ⌝ }
-    ensures { λ r. ⌜ Wrote (now (out .entry)) at (line letter (a ∷ b ∷ [])) r (now (out .exit)) ⌝ }
-{
-    let first = put_byte(out, at, letter);
-    let second = put_figure(out, first, a);
-    put_last(out, second, b)
+    put_figures(out, first, numbers)
 }

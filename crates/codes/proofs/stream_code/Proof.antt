@@ -1,9 +1,9 @@
 -- `stream_code` meets its contract: each figure fits its place in the number.
 use mathlib.Core.Path.{sym, ap, subst, _∙_}
-use Prim.Native.Nat.{ℕ, _+_, _*_, _<_}
+use Prim.Native.Nat.{ℕ, _<_}
 use native.Mathlib.Omega.{arith}
 use borrow.Author.Needs.{needs}
-use Rattle.codes.specs.Codes.{streamCode, FiguresFit}
+use Rattle.codes.specs.Codes.{refusalCode, streamCode, FiguresFit}
 use Rattle.codes.proofs.stream_code.Statement.{statement}
 use Rattle.codes.proofs.stream_code.Tie as tie
 
@@ -33,27 +33,18 @@ enum-known-r-2 c = search needs
 stream-number-requires : tie.Need-stream-number-requires
 stream-number-requires c κs = search needs
 
-cast-number : tie.Need-cast-number
-cast-number c = search needs
-
-mul-high-2 : tie.Need-mul-high-2
-mul-high-2 c = search needs
-
-add-high : tie.Need-add-high
-add-high c = search needs
-
-add-result-2 : tie.Need-add-result-2
-add-result-2 c = omega (arith, offset-fits (c .before))
+refusal-code-requires : tie.Need-refusal-code-requires
+refusal-code-requires c κs = offset-fits (c .before)
 
 returns : tie.Need-returns
 returns c = sym (ap streamCode (c .before .r .given .1))
 
 returns-2 : tie.Need-returns-2
 returns-2 c =
-    ap (λ (n : ℕ). 9223372036854775808 + n * 4294967296 + offset (c .before)) (c .stream-number .ensures)
-    ∙ sym (ap streamCode (c .before .before .r2 .given .1))
+    let n = c .before in
+    c .refusal-code .ensures ∙ ap (λ (k : ℕ). refusalCode k (offset (n .before))) (n .stream-number .ensures) ∙ sym (ap streamCode (n .before .before .r2 .given .1))
 
 pub stream-code-spec : {M : Type 1} → statement M
 stream-code-spec =
     tie.close
-    (tie.spec enum-known-r mul-high add-result enum-known-r-2 stream-number-requires cast-number mul-high-2 add-high add-result-2 returns returns-2)
+    (tie.spec enum-known-r mul-high add-result enum-known-r-2 stream-number-requires refusal-code-requires returns returns-2)

@@ -19,7 +19,7 @@ use Rattle.report.proofs.print.Tie as tie
 
 -- The entry, from where the stream is read.
 abbrev start : tie.After-shelve → tie.Start
-start c = c .before .before .before .before
+start c = c .before .before .before .before .before
 
 put-overlong-requires : tie.Need-put-overlong-requires
 put-overlong-requires c κs = omega (arith, c .put-overlong-arg .given .0 .1)
@@ -33,6 +33,9 @@ returns c =
 slice-aggregate-shelve : tie.Need-slice-aggregate-shelve
 slice-aggregate-shelve c = search needs
 
+slice-aggregate-shelve-2 : tie.Need-slice-aggregate-shelve-2
+slice-aggregate-shelve-2 c = search needs
+
 shelve-requires : tie.Need-shelve-requires
 shelve-requires c κs = search needs
 
@@ -41,11 +44,11 @@ enum-known-reason c = search needs
 
 -- A refused stream: what is returned of it tells its line.
 refused-printed : (c : tie.After-reason)
-    → let s = start (c .before .before .before) .args .stream .now in printed s ≡ refusal (c .reason .given .0 .0) (c .reason .given .0 .1 .0)
+    → let s = start (c .before .before .before .before) .args .stream .now in printed s ≡ refusal (c .reason .given .0 .0) (c .reason .given .0 .1 .0)
 unfolding printed
 refused-printed c =
-    let r = c .before .before .before in
-    printing-refused answersText (start r .args .stream .now) (r .before .before .if1 .left) _ _ (sym (c .reason .given .1) ∙ r .shelve .ensures .0)
+    let r = c .before .before .before .before in
+    printing-refused answersText (start r .args .stream .now) (r .before .before .before .if1 .left) _ _ (sym (c .reason .given .1) ∙ r .shelve .ensures .0)
 
 put-refusal-requires : tie.Need-put-refusal-requires
 put-refusal-requires c κs = omega (arith, c .put-refusal-arg .given .0 .1)
@@ -55,7 +58,7 @@ enum-known-items c = search needs
 
 -- An accepted stream: what is returned of it.
 abbrev accepted-at : tie.After-items → tie.After-shelve
-accepted-at c = c .before .before .before
+accepted-at c = c .before .before .before .before
 
 abbrev items : tie.After-items → ℕ
 items c = c .items .given .0 .0
@@ -68,14 +71,15 @@ returned c = sym (c .items .given .1) ∙ accepted-at c .shelve .ensures .0
 
 put-answers-requires : tie.Need-put-answers-requires
 put-answers-requires c κs =
-    let i = c .before .before .before in
+    let i = c .before .before .before .before in
     let r = accepted-at i in
-    listable (start r .args .stream .now) (items i) (bins i) (returned i) (r .shelve .last .1 .0) _ (start r .args .out .now) (r .shelve .ensures .1)
+    listable (start r .args .stream .now) (items i) (bins i) (returned i) (r .shelve .last .1 .0) _ (r .shelve .last .1 .1 .0) _ (start r .args .out .now) (r .shelve .ensures .1 .0)
+    (r .shelve .ensures .1 .1)
     (omega (arith, c .put-answers-arg .given .0 .1))
 
 -- The lines of its answers are listed: the totals have room behind them, and are the last that is printed.
 abbrev items-at : tie.After-put-answers → tie.After-items
-items-at c = c .before .before .before .before
+items-at c = c .before .before .before .before .before
 
 abbrev totals : tie.After-put-answers → List ℕ
 totals c = line (code "T") (items (items-at c) ∷ bins (items-at c) ∷ [])
@@ -89,18 +93,22 @@ all-printed : (c : tie.After-put-answers)
     → printed (start (accepted-at (items-at c)) .args .stream .now) ≡ lines (answers (c .put-answers .ensures .opening) (c .put-answers .ensures .commands)) ++ totals c
 all-printed c =
     let l = c .put-answers .ensures in
-    printed-accepted _ _ _ (returned (items-at c)) (l .opening) (l .commands) (l .accepts) (accepted-at (items-at c) .before .before .if1 .left)
+    printed-accepted _ _ _ (returned (items-at c)) (l .opening) (l .commands) (l .accepts) (accepted-at (items-at c) .before .before .before .if1 .left)
+
+slice-aggregate-put-line : tie.Need-slice-aggregate-put-line
+slice-aggregate-put-line c = search needs
 
 put-line-requires : tie.Need-put-line-requires
 put-line-requires c κs =
-    omega (arith, totals-short (c .before), c .before .put-answers .ensures .few, c .put-line-arg .given .0 .1)
+    let a = c .before .before in
+    omega (arith, totals-short a, a .put-answers .ensures .few, c .before .put-line-arg .given .0 .1)
 
 returns-2 : tie.Need-returns-2
 returns-2 c = rw (refused-printed (c .before .before .before)) (c .put-refusal .ensures)
 
 returns-3 : tie.Need-returns-3
 returns-3 c =
-    let a = c .before .before in
+    let a = c .before .before .before in
     let l = a .put-answers .ensures in
     let out = start (accepted-at (items-at a)) .args .out .now in
     let listed = lines (answers (l .opening) (l .commands)) in
@@ -112,5 +120,5 @@ returns-3 c =
 pub print-spec : {M : Type 1} → statement M
 print-spec =
     tie.close
-    (tie.spec put-overlong-requires returns slice-aggregate-shelve shelve-requires enum-known-reason put-refusal-requires enum-known-items
-    put-answers-requires put-line-requires returns-2 returns-3)
+    (tie.spec put-overlong-requires returns slice-aggregate-shelve slice-aggregate-shelve-2 shelve-requires enum-known-reason put-refusal-requires enum-known-items
+    put-answers-requires slice-aggregate-put-line put-line-requires returns-2 returns-3)

@@ -11,7 +11,7 @@ use Rattle.sheet.proofs.print.Tie as tie
 
 -- The entry, from where the stream is read.
 abbrev start : tie.After-record → tie.Start
-start c = c .before .before .before .before .before
+start c = c .before .before .before .before .before .before
 
 put-overlong-requires : tie.Need-put-overlong-requires
 put-overlong-requires c κs = search needs
@@ -25,6 +25,9 @@ returns c =
 slice-aggregate-record : tie.Need-slice-aggregate-record
 slice-aggregate-record c = search needs
 
+slice-aggregate-record-2 : tie.Need-slice-aggregate-record-2
+slice-aggregate-record-2 c = search needs
+
 record-requires : tie.Need-record-requires
 record-requires c κs = search needs
 
@@ -33,11 +36,11 @@ enum-known-reason c = search needs
 
 -- A refused stream: what is returned of it tells its line.
 refused-printed : (c : tie.After-reason)
-    → let s = start (c .before .before .before) .args .stream .now in sheet s ≡ refusal (c .reason .given .0 .0) (c .reason .given .0 .1 .0)
+    → let s = start (c .before .before .before .before) .args .stream .now in sheet s ≡ refusal (c .reason .given .0 .0) (c .reason .given .0 .1 .0)
 unfolding sheet
 refused-printed c =
-    let r = c .before .before .before in
-    printing-refused sheetText (start r .args .stream .now) (r .before .before .before .if1 .left) _ _ (sym (c .reason .given .1) ∙ r .«record» .ensures .0)
+    let r = c .before .before .before .before in
+    printing-refused sheetText (start r .args .stream .now) (r .before .before .before .before .if1 .left) _ _ (sym (c .reason .given .1) ∙ r .«record» .ensures .0)
 
 put-refusal-requires : tie.Need-put-refusal-requires
 put-refusal-requires c κs = search needs
@@ -47,10 +50,10 @@ enum-known-opened c = search needs
 
 -- An accepted stream: what is returned of it, and its ledger.
 the-shelf : (c : tie.After-opened)
-    → let r = c .before .before .before in Shelved (start r .args .stream .now) (r .«record» .last .1 .1 .0) (c .opened .given .0 .1 .0)
+    → let r = c .before .before .before .before in Shelved (start r .args .stream .now) (r .«record» .last .1 .1 .1 .0) (c .opened .given .0 .1 .0)
 the-shelf c =
-    let r = c .before .before .before in
-    shelved (sym (c .opened .given .1) ∙ r .«record» .ensures .0) (r .«record» .ensures .1 .1)
+    let r = c .before .before .before .before in
+    shelved (sym (c .opened .given .1) ∙ r .«record» .ensures .0) (r .«record» .ensures .1 .1 .1)
 
 opening-of-requires : tie.Need-opening-of-requires
 opening-of-requires c κs = shelved-opening (the-shelf (c .before))
@@ -67,7 +70,7 @@ returns-3 : tie.Need-returns-3
 returns-3 c =
     let p = c .before .before .before in
     let o = p .before .before in
-    rw (shelved-text (the-shelf o) (p .opening-of .result) (p .opening-of .ensures) (o .before .before .before .before .before .before .if1 .left)) (c .put-lines .ensures)
+    rw (shelved-text (the-shelf o) (p .opening-of .result) (p .opening-of .ensures) (o .before .before .before .before .before .before .before .before .if1 .left)) (c .put-lines .ensures)
 
 pub print-spec : {M : Type 1} → statement M
 print-spec =
@@ -76,6 +79,7 @@ print-spec =
     put-overlong-requires
     returns
     slice-aggregate-record
+    slice-aggregate-record-2
     record-requires
     enum-known-reason
     put-refusal-requires

@@ -1,13 +1,17 @@
 -- `shelve` meets its contract: the equations are those of the stream's call, and what holds of an accepted stream is a theorem about the model.
 use mathlib.Core.Path.{ap}
-use lib.ListN.{length}
+use Prim.Native.Nat.{ℕ}
 use borrow.Author.Needs.{needs}
 use Rattle.packing.specs.Refusals.{streamGives}
-use Rattle.packing.proofs.Theorems.{holds-answered, never-overfull, loads-add-up, counts}
+use Rattle.packing.specs.Streams.{wordsLent}
+use Rattle.packing.proofs.Theorems.{holds-answered, never-overfull, free-units, loads-add-up, counts}
 use Rattle.worst_case.proofs.OwnPlan.{own-plan-of-stream}
 use Rattle.worst_case.proofs.WorstCase.{worst-case-of-stream}
 use Rattle.shelf.proofs.shelve.Statement.{statement}
 use Rattle.shelf.proofs.shelve.Tie as tie
+
+abbrev words : tie.Start → ℕ
+words s = wordsLent (s .args .answers .now) (s .args .free .now)
 
 shelve-requires : tie.Need-shelve-requires
 shelve-requires c κs = search needs
@@ -15,22 +19,28 @@ shelve-requires c κs = search needs
 same-length : tie.Need-same-length
 same-length c = search needs
 
+same-length-2 : tie.Need-same-length-2
+same-length-2 c = search needs
+
 returns : tie.Need-returns
 returns c =
-    let d = c .before .before in
-    let s = d .before .before .before .before in (
+    let d = c .before .before .before .before in
+    let s = d .before .before .before .before .before .before in (
       ap streamGives (d .shelve .ensures .0),
       (
-        d .shelve .ensures .1,
+        d .shelve .ensures .1 .0,
         (
-          λ o cs e. counts o cs,
+          d .shelve .ensures .1 .1,
           (
-            λ o cs e. holds-answered o cs,
+            λ o cs e. counts o cs,
             (
-              λ o cs e. never-overfull o cs,
+              λ o cs e. holds-answered o cs,
               (
-                λ o cs e. loads-add-up o cs,
-                (own-plan-of-stream (s .args .stream .now) (length (s .args .answers .now)), worst-case-of-stream (s .args .stream .now) (length (s .args .answers .now))),
+                λ o cs e. never-overfull o cs,
+                (
+                  λ o cs e. free-units o cs,
+                  (λ o cs e. loads-add-up o cs, (own-plan-of-stream (s .args .stream .now) (words s), worst-case-of-stream (s .args .stream .now) (words s))),
+                ),
               ),
             ),
           ),
@@ -39,4 +49,4 @@ returns c =
     )
 
 pub shelve-spec : {M : Type 1} → statement M
-shelve-spec = tie.close (tie.spec shelve-requires same-length returns)
+shelve-spec = tie.close (tie.spec shelve-requires same-length same-length-2 returns)

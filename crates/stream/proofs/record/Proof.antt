@@ -1,51 +1,53 @@
--- `record` meets its contract: each refusal is the verdict and leaves the row as it was, and an accepted stream is what `answer_all` ensures.
+-- `record` meets its contract: each refusal is the verdict and leaves the rows as they were, and an accepted stream is what `answer_all` ensures.
 use mathlib.Core.Path.{_≡_, refl, sym, _∙_}
 use mathlib.Core.List.{List}
 use Prim.Native.Nat.{ℕ}
-use lib.ListN.{length}
 use borrow.Author.Needs.{needs}
 use Rattle.packing.specs.declared.{StreamReason.StreamReason, StreamResult.StreamResult}
-use Rattle.packing.specs.Streams.{refused, verdict}
-use Rattle.packing.specs.Run.{result, rowAtExit}
+use Rattle.packing.specs.Streams.{refused, wordsLent, verdict}
 use Rattle.packing.proofs.Limits.{in-limits}
 use Rattle.tournament.specs.Trees.{rowWords}
 use Rattle.engine.proofs.Empty.{empty-store}
 use Rattle.stream.specs.Running.{Runnable}
-use Rattle.stream.specs.Recorded.{Recorded}
 use Rattle.stream.proofs.Verdicts.{verdict-refused, verdict-short, verdict-accepted}
-use Rattle.stream.proofs.Going.{runnable-whole, ran-result}
+use Rattle.stream.proofs.Going.{Given, runnable-whole, ran-result}
 use Rattle.stream.proofs.record.Statement.{statement}
 use Rattle.stream.proofs.record.Tie as tie
 
--- Where the stream is read: its bytes, and the row.
+-- Where the stream is read: its bytes, and the rows.
 module _ (c : tie.After-validate) where
   abbrev bytes : List ℕ
-  bytes = c .before .before .before .args .stream .now
+  bytes = c .before .before .before .before .args .stream .now
 
   abbrev row : List ℕ
-  row = c .before .before .before .args .answers .now
+  row = c .before .before .before .before .args .answers .now
+
+  abbrev freeRow : List ℕ
+  freeRow = c .before .before .before .before .args .free .now
+
+  abbrev words : ℕ
+  words = wordsLent row freeRow
 
   abbrev ledger : List (List ℕ)
-  ledger = c .before .before .before .args .ledger .now
+  ledger = c .before .before .before .before .args .ledger .now
 
   -- A refusal, told by the verdict.
-  refuses : {reason : StreamReason} {offset : ℕ} → verdict bytes (length row) ≡ refused reason offset
-      → (StreamResult.Refused reason offset ≡ result (verdict bytes (length row)))
-      × ((row ≡ rowAtExit (verdict bytes (length row)) row) × Recorded (verdict bytes (length row)) ledger)
-  refuses e = (rw e, (rw e, rw e (c .before .before .before .pre)))
+  refuses : {reason : StreamReason} {offset : ℕ} → verdict bytes words ≡ refused reason offset
+      → Given (verdict bytes words) row freeRow (StreamResult.Refused reason offset) row freeRow ledger
+  refuses e = (rw e, (rw e, (rw e, rw e (c .before .before .before .before .pre))))
 
 -- Where there are words enough: the stream can be run.
 module _ (c : tie.Else1) where
   abbrev told : tie.After-opening
-  told = c .before .before
+  told = c .before .before .before
 
   abbrev read : tie.After-validate
   read = told .before .before
 
-  runs : Runnable (bytes read) (length (row read)) (told .opening .given .0 .0)
+  runs : Runnable (bytes read) (words read) (told .opening .given .0 .0)
   runs =
-      verdict-accepted (bytes read) (length (row read)) (told .opening .given .0 .0) (told .opening .given .0 .1 .0)
-      (sym (told .opening .given .1) ∙ read .validate .ensures) (c .if1 .left)
+      verdict-accepted (bytes read) (words read) (told .opening .given .0 .0) (told .opening .given .0 .1 .0)
+      (sym (told .opening .given .1) ∙ read .validate .ensures) (rw (c .before .shorter .ensures) at (c .if1 .left))
 
 validate-requires : tie.Need-validate-requires
 validate-requires c κs = search needs
@@ -56,21 +58,24 @@ enum-known-reason c = search needs
 enum-known-opening : tie.Need-enum-known-opening
 enum-known-opening c = search needs
 
+shorter-requires : tie.Need-shorter-requires
+shorter-requires c κs = search needs
+
 returns : tie.Need-returns
 returns c =
-    let o = c .before .before in
+    let o = c .before .before .before in
     let v = o .before .before in
     refuses v
-    (verdict-short (bytes v) (length (row v)) (o .opening .given .0 .0) (o .opening .given .0 .1 .0) (sym (o .opening .given .1) ∙ v .validate .ensures) (c .if1 .taken))
+    (verdict-short (bytes v) (words v) (o .opening .given .0 .0) (o .opening .given .0 .1 .0) (sym (o .opening .given .1) ∙ v .validate .ensures) (rw (c .before .shorter .ensures) at (c .if1 .taken)))
 
 shape-of-requires : tie.Need-shape-of-requires
 shape-of-requires c κs = in-limits (told c .opening .given .0 .0) (runnable-whole (runs c) .opening-good) .stock .1
 
 answer-all-requires : tie.Need-answer-all-requires
 answer-all-requires c κs =
-    let s = c .before .before .before in
+    let s = c .before .before .before .before in
     let e = s .before in
-    (runs e, rw (read e .before .before .before .pre) (empty-store _ _ rowWords refl (runnable-whole (runs e) .opening-good) (s .shape-of .ensures)))
+    (runs e, rw (read e .before .before .before .before .pre) (empty-store _ _ rowWords refl (runnable-whole (runs e) .opening-good) (s .shape-of .ensures)))
 
 cast-items : tie.Need-cast-items
 cast-items c = search needs
@@ -82,17 +87,19 @@ returns-2 : tie.Need-returns-2
 returns-2 c =
     let r = c .before in
     let v = r .before .before in
-    refuses v (verdict-refused (bytes v) (length (row v)) (r .reason .given .0 .0) (r .reason .given .0 .1 .0) (sym (r .reason .given .1) ∙ v .validate .ensures))
+    refuses v (verdict-refused (bytes v) (words v) (r .reason .given .0 .0) (r .reason .given .0 .1 .0) (sym (r .reason .given .1) ∙ v .validate .ensures))
 
 same-length : tie.Need-same-length
 same-length c = search needs
 
+same-length-2 : tie.Need-same-length-2
+same-length-2 c = search needs
+
 returns-3 : tie.Need-returns-3
-returns-3 c = ran-result (c .before .before .before .before .answer-all .ensures)
+returns-3 c = ran-result (c .before .before .before .before .before .before .answer-all .ensures)
 
 pub record-spec : {M : Type 1} → statement M
 record-spec =
     tie.close
-    (tie.spec validate-requires enum-known-reason enum-known-opening returns shape-of-requires answer-all-requires cast-items cast-opened returns-2
-    same-length
-    returns-3)
+    (tie.spec validate-requires enum-known-reason enum-known-opening shorter-requires returns shape-of-requires answer-all-requires cast-items cast-opened returns-2
+    same-length same-length-2 returns-3)

@@ -12,7 +12,8 @@ use Rattle.report.proofs.answers.put_answer.Tie as tie
 abbrev start : tie.After-outcome → tie.Start
 start c = c .before .before .before
 
-placed : (c : tie.After-outcome) → answerLine (start c .args .answer) ≡ line (code "P") (start c .args .answer .number ∷ c .outcome .given .0 .0 ∷ [])
+placed : (c : tie.After-outcome)
+    → answerLine (start c .args .answer) ≡ line (code "P") (start c .args .answer .number ∷ c .outcome .given .0 .0 ∷ c .outcome .given .0 .1 .0 ∷ [])
 placed c = ap (lineOf (start c .args .answer .number)) (c .outcome .given .1)
 
 counted : (c : tie.After-outcome2) → let a = c .before .before .before .args .answer in answerLine a ≡ line (code "C") (a .number ∷ c .outcome2 .given .0 .0 ∷ [])
@@ -29,9 +30,15 @@ enum-known-outcome c = search needs
 cast-bin : tie.Need-cast-bin
 cast-bin c = search needs
 
+cast-free : tie.Need-cast-free
+cast-free c = search needs
+
+slice-aggregate-put-line : tie.Need-slice-aggregate-put-line
+slice-aggregate-put-line c = search needs
+
 put-line-requires : tie.Need-put-line-requires
 put-line-requires c κs =
-    let o = c .before .before in
+    let o = c .before .before .before in
     rw (placed o) at (start o .pre)
 
 enum-known-outcome-2 : tie.Need-enum-known-outcome-2
@@ -40,9 +47,12 @@ enum-known-outcome-2 c = search needs
 cast-opened : tie.Need-cast-opened
 cast-opened c = search needs
 
+slice-aggregate-put-line-2 : tie.Need-slice-aggregate-put-line-2
+slice-aggregate-put-line-2 c = search needs
+
 put-line-requires-2 : tie.Need-put-line-requires-2
 put-line-requires-2 c κs =
-    let o = c .before .before in
+    let o = c .before .before .before in
     rw (counted o) at (o .before .before .before .pre)
 
 enum-known-outcome-3 : tie.Need-enum-known-outcome-3
@@ -54,9 +64,12 @@ item-number-requires c κs = search needs
 cast-refusal : tie.Need-cast-refusal
 cast-refusal c = search needs
 
+slice-aggregate-put-line-3 : tie.Need-slice-aggregate-put-line-3
+slice-aggregate-put-line-3 c = search needs
+
 put-line-requires-3 : tie.Need-put-line-requires-3
 put-line-requires-3 c κs =
-    let n = c .before in
+    let n = c .before .before in
     rw (refused n) at (n .before .before .before .before .before .pre)
 
 same-length : tie.Need-same-length
@@ -65,7 +78,7 @@ same-length c = search needs
 returns : tie.Need-returns
 returns c =
     let p = c .before .before in
-    rw (placed (p .before .before .before)) (p .put-line .ensures)
+    rw (placed (p .before .before .before .before)) (p .put-line .ensures)
 
 same-length-2 : tie.Need-same-length-2
 same-length-2 c = search needs
@@ -73,7 +86,7 @@ same-length-2 c = search needs
 returns-2 : tie.Need-returns-2
 returns-2 c =
     let p = c .before .before in
-    rw (counted (p .before .before .before)) (p .put-line2 .ensures)
+    rw (counted (p .before .before .before .before)) (p .put-line2 .ensures)
 
 same-length-3 : tie.Need-same-length-3
 same-length-3 c = search needs
@@ -81,10 +94,11 @@ same-length-3 c = search needs
 returns-3 : tie.Need-returns-3
 returns-3 c =
     let p = c .before .before in
-    rw (refused (p .before .before)) (p .put-line3 .ensures)
+    rw (refused (p .before .before .before)) (p .put-line3 .ensures)
 
 pub put-answer-spec : {M : Type 1} → statement M
 put-answer-spec =
     tie.close
-    (tie.spec enum-known-outcome cast-bin put-line-requires enum-known-outcome-2 cast-opened put-line-requires-2 enum-known-outcome-3
-    item-number-requires cast-refusal put-line-requires-3 same-length returns same-length-2 returns-2 same-length-3 returns-3)
+    (tie.spec enum-known-outcome cast-bin cast-free slice-aggregate-put-line put-line-requires enum-known-outcome-2 cast-opened slice-aggregate-put-line-2
+    put-line-requires-2 enum-known-outcome-3 item-number-requires cast-refusal slice-aggregate-put-line-3 put-line-requires-3 same-length returns same-length-2
+    returns-2 same-length-3 returns-3)

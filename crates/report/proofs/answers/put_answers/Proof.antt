@@ -15,10 +15,10 @@ use Rattle.report.proofs.answers.put_answers.Statement.{statement}
 use Rattle.report.proofs.answers.put_answers.Tie as tie
 
 abbrev Inv-loop : tie.InvT-loop
-Inv-loop stream words out₀ rest₀ done₀ at₀ out rest done at = Listing stream words out₀ out rest done at
+Inv-loop stream words free out₀ rest₀ done₀ at₀ out rest done at = Listing stream words free out₀ out rest done at
 
 abbrev μ-loop : tie.MeasureT-loop
-μ-loop stream words out₀ rest₀ done₀ at₀ out rest done at = length rest
+μ-loop stream words free out₀ rest₀ done₀ at₀ out rest done at = length rest
 
 -- Where the front is read: the turn, its command, and that this stands inside.
 module _ (c : tie.After-accepted-front Inv-loop μ-loop) where
@@ -45,7 +45,7 @@ module _ (c : tie.After-accepted-front Inv-loop μ-loop) where
 
 -- From behind the line back to the front.
 abbrev read : tie.After-slice-known2 Inv-loop μ-loop → tie.After-accepted-front Inv-loop μ-loop
-read c = c .before .before .before .before .before .before .before
+read c = c .before .before .before .before .before .before .before .before
 
 behind-opening-requires : tie.Need-behind-opening-requires Inv-loop μ-loop
 behind-opening-requires c κs = whole-opened _ _ _ _ (listable-whole (c .before .before .pre))
@@ -65,16 +65,22 @@ mul-word c = omega (arith, index (c .before))
 element-copy-out-word : tie.Need-element-copy-out-word Inv-loop μ-loop
 element-copy-out-word c = index (c .before)
 
+mul-units : tie.Need-mul-units Inv-loop μ-loop
+mul-units c = omega (arith, index (c .before .before))
+
+element-copy-out-units : tie.Need-element-copy-out-units Inv-loop μ-loop
+element-copy-out-units c = index (c .before .before)
+
 outcome-of-requires : tie.Need-outcome-of-requires Inv-loop μ-loop
 outcome-of-requires c κs = search needs
 
 add-number : tie.Need-add-number Inv-loop μ-loop
-add-number c = omega (arith, index (c .before .before .before))
+add-number c = omega (arith, index (c .before .before .before .before))
 
 put-answer-requires : tie.Need-put-answer-requires Inv-loop μ-loop
 put-answer-requires c κs =
     let r = c .before in
-    let f = r .before .before .before in
+    let f = r .before .before .before .before in
     listing-room (turn f .loop .inv) (command f) (width f) (front f) _ (r .outcome-of .ensures)
 
 sub-rest : tie.Need-sub-rest Inv-loop μ-loop
@@ -105,5 +111,5 @@ returns c = listing-end (c .before .loop .inv) (c .loop-test .left)
 pub put-answers-spec : {M : Type 1} → statement M
 put-answers-spec =
     tie.close
-    (tie.spec Inv-loop μ-loop behind-opening-requires loop-holds accepted-front-requires add-used mul-word element-copy-out-word outcome-of-requires
-    add-number put-answer-requires sub-rest part-rest-start part-rest-end loop-less loop-again same-length returns)
+    (tie.spec Inv-loop μ-loop behind-opening-requires loop-holds accepted-front-requires add-used mul-word element-copy-out-word mul-units element-copy-out-units
+    outcome-of-requires add-number put-answer-requires sub-rest part-rest-start part-rest-end loop-less loop-again same-length returns)

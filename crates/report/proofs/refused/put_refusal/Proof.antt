@@ -29,8 +29,11 @@ stream-number-requires c κs = search needs
 cast-number : tie.Need-cast-number
 cast-number c = search needs
 
+slice-aggregate-put-line : tie.Need-slice-aggregate-put-line
+slice-aggregate-put-line c = search needs
+
 put-line-requires : tie.Need-put-line-requires
-put-line-requires c κs = rw (the-line (c .before)) at (room (c .before))
+put-line-requires c κs = let n = c .before .before in rw (the-line n) at (room n)
 
 same-length : tie.Need-same-length
 same-length c = search needs
@@ -38,9 +41,9 @@ same-length c = search needs
 returns : tie.Need-returns
 returns c =
     let w = c .before .before in
-    let n = w .before .before in
+    let n = w .before .before .before in
     let s = start n in
     at-front (s .args .out .now) (refusal (s .args .reason) (s .args .offset)) _ _ (room n) (rw (the-line n) (w .put-line .ensures))
 
 pub put-refusal-spec : {M : Type 1} → statement M
-put-refusal-spec = tie.close (tie.spec stream-number-requires cast-number put-line-requires same-length returns)
+put-refusal-spec = tie.close (tie.spec stream-number-requires cast-number slice-aggregate-put-line put-line-requires same-length returns)

@@ -18,11 +18,11 @@ use Rattle.stream.proofs.run.answer_all.Statement.{statement}
 use Rattle.stream.proofs.run.answer_all.Tie as tie
 
 abbrev Inv-loop : tie.InvT-loop
-Inv-loop stream opening shape trees₀ ledger₀ answers₀ counters₀ rest₀ done₀ trees ledger answers counters rest done =
-    Going opening shape stream answers₀ answers trees ledger rest counters done
+Inv-loop stream opening shape trees₀ ledger₀ answers₀ free₀ counters₀ rest₀ done₀ trees ledger answers free counters rest done =
+    Going opening shape stream answers₀ free₀ answers free trees ledger rest counters done
 
 abbrev μ-loop : tie.MeasureT-loop
-μ-loop stream opening shape trees₀ ledger₀ answers₀ counters₀ rest₀ done₀ trees ledger answers counters rest done = length rest
+μ-loop stream opening shape trees₀ ledger₀ answers₀ free₀ counters₀ rest₀ done₀ trees ledger answers free counters rest done = length rest
 
 -- Where the front is read: the turn, its command, and that this stands inside.
 module _ (c : tie.After-accepted-front Inv-loop μ-loop) where
@@ -55,19 +55,19 @@ module _ (c : tie.After-word-of Inv-loop μ-loop) where
   abbrev answer : Answer
   answer = answered .answer .result .answer
 
-  -- The word of the answer's number stands in the row.
-  here : answer .number - 1 < length (turn read .loop .answers)
+  -- The words of the answer's number stand in the rows.
+  here : (answer .number - 1 < length (turn read .loop .answers)) × (answer .number - 1 < length (turn read .loop .free))
   here = omega (arith, going-word (turn read .loop .inv) (command read) (width read) (front read), answered .answer .ensures .numbered)
 
 abbrev last : tie.After-counters Inv-loop μ-loop → tie.After-accepted-front Inv-loop μ-loop
-last c = read (c .before)
+last c = read (c .before .before)
 
 behind-opening-requires : tie.Need-behind-opening-requires Inv-loop μ-loop
-behind-opening-requires c κs = whole-opened _ _ _ _ (runnable-whole (c .before .before .pre .0))
+behind-opening-requires c κs = whole-opened _ _ _ _ (runnable-whole (c .before .before .before .pre .0))
 
 loop-holds : tie.Need-loop-holds Inv-loop μ-loop
 loop-holds c =
-    let given = c .before .before .before .pre in
+    let given = c .before .before .before .before .pre in
     going-start (given .0) (given .1) _ (c .behind-opening .ensures)
 
 accepted-front-requires : tie.Need-accepted-front-requires Inv-loop μ-loop
@@ -94,7 +94,19 @@ mul-answers c =
     fits
 
 slice-write-answers : tie.Need-slice-write-answers Inv-loop μ-loop
-slice-write-answers c = here c
+slice-write-answers c = here c .0
+
+free-units-of-requires : tie.Need-free-units-of-requires Inv-loop μ-loop
+free-units-of-requires c κs = search needs
+
+mul-free : tie.Need-mul-free Inv-loop μ-loop
+mul-free c =
+    let w = c .before in
+    let fits : Fits w64 ((answer w .number - 1) * 4) = omega (arith, going-few (turn (read w) .loop .inv), answered w .answer .ensures .numbered) in
+    fits
+
+slice-write-free : tie.Need-slice-write-free Inv-loop μ-loop
+slice-write-free c = here (c .before) .1
 
 sub-rest : tie.Need-sub-rest Inv-loop μ-loop
 sub-rest c = inside (last c)
@@ -110,13 +122,17 @@ loop-less c = omega (arith, inside (last (c .before)))
 
 loop-again : tie.Need-loop-again Inv-loop μ-loop
 loop-again c =
-    let w = c .before .before in
+    let told = c .before .before in
+    let w = told .before in
     let f = read w in
-    going-next (turn f .loop .inv) (command f) (width f) (front f) _ _ _ _ _ _ (answered w .answer .ensures) (w .word-of .ensures)
+    going-next (turn f .loop .inv) (command f) (width f) (front f) _ _ _ _ _ _ _ (answered w .answer .ensures) (w .word-of .ensures) (told .free-units-of .ensures)
     (part-is (rest f) (width f + 1) (inside f))
 
 same-length : tie.Need-same-length Inv-loop μ-loop
-same-length c = going-same (c .before .loop .inv)
+same-length c = going-same (c .before .loop .inv) .0
+
+same-length-2 : tie.Need-same-length-2 Inv-loop μ-loop
+same-length-2 c = going-same (c .before .loop .inv) .1
 
 returns : tie.Need-returns Inv-loop μ-loop
 returns c = going-end (c .before .loop .inv) (c .loop-test .left)
@@ -125,4 +141,5 @@ pub answer-all-spec : {M : Type 1} → statement M
 answer-all-spec =
     tie.close
     (tie.spec Inv-loop μ-loop behind-opening-requires loop-holds accepted-front-requires add-used add-number answer-requires sub-place word-of-requires
-    mul-answers slice-write-answers sub-rest part-rest-start part-rest-end loop-less loop-again same-length returns)
+    mul-answers slice-write-answers free-units-of-requires mul-free slice-write-free sub-rest part-rest-start part-rest-end loop-less loop-again same-length
+    same-length-2 returns)

@@ -1,4 +1,4 @@
--- `check_plan` meets its contract: a place always fits (codes, Places), so 0 is the number of no refusal.
+-- `shelf_check_plan` meets its contract: a place always fits (codes, Places), so 0 is the number of no refusal.
 use mathlib.Core.Path.{_≡_, sym, ap, subst, _∙_}
 use Rattle.packing.specs.declared.{PlanResult.PlanResult}
 use Rattle.packing.specs.Plans.{planOf, check}
@@ -7,8 +7,8 @@ use borrow.Author.Needs.{needs}
 use Rattle.codes.specs.Codes.{planCode, PlaceFits}
 use Rattle.codes.proofs.Places.{place-fits}
 use Rattle.codes.proofs.Back.{plan-code-back}
-use Rattle.shelf.proofs.exports.check_plan.Statement.{statement}
-use Rattle.shelf.proofs.exports.check_plan.Tie as tie
+use Rattle.shelf.proofs.exports.shelf_check_plan.Statement.{statement}
+use Rattle.shelf.proofs.exports.shelf_check_plan.Tie as tie
 
 -- What is due, and that it is what `check_rows` returned.
 abbrev due : tie.After-check-rows → PlanResult
@@ -40,5 +40,5 @@ returns c =
       ),
     )
 
-pub check-plan-spec : {M : Type 1} → statement M
-check-plan-spec = tie.close (tie.spec check-rows-requires plan-code-requires returns)
+pub shelf-check-plan-spec : {M : Type 1} → statement M
+shelf-check-plan-spec = tie.close (tie.spec check-rows-requires plan-code-requires returns)
