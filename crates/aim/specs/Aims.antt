@@ -1,5 +1,6 @@
 -- The five trees: which bins each shows, which one is searched for an item, and what accepting an item counts.
-use Prim.Native.Nat.{ℕ, zero, suc, _+_}
+use mathlib.Core.Path.{_≡_}
+use Prim.Native.Nat.{ℕ, zero, suc, _+_, _<_}
 use Rattle.packing.specs.declared.{SizeClass.SizeClass, PerClass.PerClass}
 use Rattle.packing.specs.SizeClasses.{numberOf}
 use Rattle.packing.specs.Prelude.{_=?_, if_then_else_}
@@ -36,5 +37,14 @@ abbrev pub phaseAfter : (tree phase : ℕ) → ℕ
 phaseAfter tree phase = if tree =? 0 then 0 else (if tree =? 3 then phase + 1 else phase)
 
 -- the counters once an item is accepted that was searched for in this tree, with so many bins opened
-abbrev pub accepting : (tree opened : ℕ) → Counters → Counters
-accepting tree opened c = record { opened = opened; phase = phaseAfter tree (c .phase); items = c .items + 1 }
+abbrev pub accepting : (tree opened m : ℕ) → Counters → Counters
+accepting tree opened m c =
+    let phase = phaseAfter tree (c .phase) in
+    record { opened = opened; phase = phase; items = c .items + 1; b2 = b2Tree phase m }
+
+-- Before that: one more item can be counted, both phases are below m, and the tree for the next B2 is that of the phase.
+pub record Acceptable (tree m : ℕ) (c : Counters) : Type 0 where
+  pub room : c .items < 4294967295
+  pub phase : c .phase < m
+  pub phase-after : phaseAfter tree (c .phase) < m
+  pub b2 : c .b2 ≡ b2Tree (c .phase) m

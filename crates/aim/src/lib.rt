@@ -3,32 +3,33 @@
 use packing::PerClass;
 ghost use mathlib.Core.Path.{_≡_};
 ghost use Prim.Native.Nat.{_<_};
-ghost use Rattle.packing.specs.SizeClasses.{sizeClass};
-ghost use Rattle.aim.specs.Aims.{home, b2Tree, treeFor, aFor, phaseAfter, accepting};
+ghost use Rattle.packing.specs.SizeClasses.{sizeClass, numberOf};
+ghost use Rattle.aim.specs.Aims.{home, b2Tree, treesWith, aFor, accepting, Acceptable};
 
-// The bins opened, the B2 items accepted since the last m-th, and the items accepted. (Of one width, so that nothing lies between them: the
-// compiler then keeps each in a register.)
+// The bins opened, the B2 items accepted since the last m-th, and the items accepted; and the tree that is searched for the next B2, which follows
+// from the phase and is kept so that no item has to ask for it. (Of one width, so that nothing lies between them, and too wide to be packed into one
+// register: the compiler then keeps each in its own.)
 pub struct Counters {
-    pub opened: u16,
-    pub phase: u16,
-    pub items: u16,
+    pub opened: u32,
+    pub phase: u32,
+    pub items: u32,
+    pub b2: u32,
 }
 
 // The tree that is searched for the next B2: every m-th goes beside an A.
-fn b2_tree(phase: u16, m: u8) -> usize
+fn b2_tree_at(phase: u32, m: u8) -> u32
     requires { ⌜ phase < m ⌝ }
     ensures { λ r. ⌜ r ≡ b2Tree phase m ⌝ }
 {
-    let last = m as u16 - 1;
+    let last = m as u32 - 1;
     if phase == last { 0 } else { 3 }
 }
 
-// The tree that is searched for an item: that of its class, unless it is an m-th B2.
-pub fn tree_for(size: u32, capacity: u32, phase: u16, m: u8) -> usize
-    requires { ⌜ phase < m ⌝ }
-    ensures { λ r. ⌜ r ≡ treeFor (sizeClass capacity size) phase m ⌝ }
+// The tree that is searched for an item: that of its class, with this one for a B2.
+pub fn tree_for(size: u32, capacity: u32, b2: u32) -> usize
+    ensures { λ r. ⌜ r ≡ numberOf (treesWith b2) (sizeClass capacity size) ⌝ }
 {
-    let b2 = b2_tree(phase, m);
+    let b2 = b2 as usize;
     let trees = PerClass {
         a: 1,
         b1: 2,
@@ -52,29 +53,42 @@ pub fn a_for(tree: usize) -> u32
     if tree == 1 { 1 } else { 0 }
 }
 
-// The phase once an item is accepted that was searched for in this tree: a B2 counts, in whichever class it lies.
-fn phase_after(tree: usize, phase: u16) -> u16
-    requires { ⌜ phase < 65535 ⌝ }
-    ensures { λ r. ⌜ r ≡ phaseAfter tree phase ⌝ }
+// The counters once an item is accepted that was searched for in this tree, with so many bins opened then. A B2 counts, in whichever class it lies,
+// and nothing else changes the phase, and with it the tree for the next.
+pub fn accept(counters: Counters, tree: usize, opened: u32, m: u8) -> Counters
+    requires { ⌜ Acceptable tree m counters ⌝ }
+    ensures { λ r. ⌜ r ≡ accepting tree opened m counters ⌝ }
 {
-    match tree {
-        0 => 0,
-        3 => phase + 1,
-        _ => phase,
-    }
-}
-
-// The counters once an item is accepted, with so many bins opened then.
-pub fn accept(counters: Counters, tree: usize, opened: u16) -> Counters
-    requires phase { ⌜ counters .phase < 65535 ⌝ }
-    requires room { ⌜ counters .items < 65535 ⌝ }
-    ensures { λ r. ⌜ r ≡ accepting tree opened counters ⌝ }
-{
-    let phase = phase_after(tree, counters.phase);
     let items = counters.items + 1;
-    Counters {
-        opened,
-        phase,
-        items,
+    match tree {
+        0 => {
+            let b2 = b2_tree_at(0, m);
+            Counters {
+                opened,
+                phase: 0,
+                items,
+                b2,
+            }
+        }
+        3 => {
+            let phase = counters.phase + 1;
+            let b2 = b2_tree_at(phase, m);
+            Counters {
+                opened,
+                phase,
+                items,
+                b2,
+            }
+        }
+        _ => {
+            let phase = counters.phase;
+            let b2 = counters.b2;
+            Counters {
+                opened,
+                phase,
+                items,
+                b2,
+            }
+        }
     }
 }

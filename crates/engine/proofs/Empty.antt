@@ -5,6 +5,7 @@ use mathlib.Core.List.{[]}
 use Prim.Native.Nat.{ℕ, _+_, _*_, _<_}
 use native.Mathlib.Nat.{zero-mod}
 use native.Mathlib.Omega.{arith}
+use borrow.Author.Tests.{ne-eqb}
 use lib.ListN.{getD, replicate, length-replicate, getD-replicate}
 use Rattle.packing.specs.declared.Opening.{Opening}
 use Rattle.packing.specs.Limits.{openingGood}
@@ -59,6 +60,7 @@ module _ (o : Opening) (shape : Shape) (n : ℕ) (words : n ≡ rowWords) (good 
       stock = fitted .enough;
       within = omega arith;
       phase = omega (arith, in-limits o good .m);
+      b2 = rw (ne-eqb 1 (o .m) (λ e. omega (arith, in-limits o good .m)));
       few = few-at;
       packing = empty;
       represents = nothing;

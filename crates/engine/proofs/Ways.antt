@@ -51,7 +51,7 @@ module _ {o : Opening} {c : Counters} {size n : ℕ} (a : Aimed o c size n) {s :
     entry : IsEntry o p size (s .place) (home n) (s .free) (aFor n)
     entry = record { place-is = m .place-is; class-is = sym (m .class-is); free-is = m .free-is; a-is = a-more a }
 
-    modelled : Modelled o (Shelve size) (Placed (s .place + 1) (s .free)) (store u ledger′ (accepting n (s .opened) c)) p
+    modelled : Modelled o (Shelve size) (Placed (s .place + 1) (s .free)) (store u ledger′ (accepting n (s .opened) (o .m) c)) p
     modelled =
         let goes : decision o p (item size) ≡ into (binFor o p (item size)) =
         decides o p (item size) _ (goes-in (record { some = a .some; within-capacity = a .fits; not-spent = m .in-stock })) in
@@ -73,13 +73,14 @@ module _ {o : Opening} {c : Counters} {size n : ℕ} (a : Aimed o c size n) {s :
         ⊎-elim inl (λ same. inr (same ∙ m .class-is ∙ sym new)) (row-before (r .records) inside entry .class)
 
   pub done-placed : {number : ℕ} → Sound o shape (store t ledger c) → Spotted o shape (store t ledger c) size n s
-      → Done o shape (store t ledger c) number (Shelve size) (answering number (Placed (s .place + 1) (s .free))) (store u ledger′ (accepting n (s .opened) c))
+      → Done o shape (store t ledger c) number (Shelve size) (answering number (Placed (s .place + 1) (s .free))) (store u ledger′ (accepting n (s .opened) (o .m) c))
   done-placed sound w = record {
     sound = record {
       index = rw (e .ledger-is) (indexes-set (sound .index) at-hand (class-before then there) d);
       stock = sound .stock;
       within = w .stock;
       phase = phase-few a;
+      b2 = refl;
       few = λ i l. rw (e .ledger-is) (few-after i l);
       packing = next o (sound .packing) (Shelve size);
       represents = modelled then there .represents;

@@ -6,6 +6,7 @@ use Rattle.packing.specs.declared.Opening.{Opening}
 use Rattle.packing.specs.Bins.{Packing, empty, opened}
 use Rattle.tournament.specs.declared.Shape.{Shape}
 use Rattle.aim.specs.declared.Counters.{Counters}
+use Rattle.aim.specs.Aims.{b2Tree}
 use Rattle.ledger.specs.Rows.{places, rowAt, heldIn, heldAIn}
 use Rattle.ledger.specs.Records.{Records}
 use Rattle.index.specs.Trees.{Indexes}
@@ -36,6 +37,7 @@ pub record Sound (o : Opening) (shape : Shape) (s : Store) : Type 0 where
   pub stock : o .stock ≤ shape .places
   pub within : s .counters .opened ≤ o .stock
   pub phase : s .counters .phase < o .m
+  pub b2 : s .counters .b2 ≡ b2Tree (s .counters .phase) (o .m)
   pub few : (i : ℕ) → i < places → Few (s .counters .items) (rowAt (s .ledger) i)
   pub packing : Packing
   pub represents : Represents o s packing
@@ -43,11 +45,11 @@ pub record Sound (o : Opening) (shape : Shape) (s : Store) : Type 0 where
 -- A command may come: the count of items can take one more. The commands of a stream are far fewer.
 pub record Ready (o : Opening) (shape : Shape) (s : Store) : Type 0 where
   pub sound : Sound o shape s
-  pub room : s .counters .items < 65535
+  pub room : s .counters .items < 4294967295
 
 -- The counters before the first command, and the trees and the ledger that with them stand for the empty packing.
 abbrev pub atOpening : Counters
-atOpening = record { opened = 0; phase = 0; items = 0 }
+atOpening = record { opened = 0; phase = 0; items = 0; b2 = 3 }
 
 pub record EmptyStore (o : Opening) (shape : Shape) (trees : List ℕ) (ledger : List (List ℕ)) : Type 0 where
   pub sound : Sound o shape (store trees ledger atOpening)

@@ -31,7 +31,7 @@ pub struct Answered {
 struct Spot {
     place: usize,
     free: u32,
-    opened: u16,
+    opened: u32,
 }
 
 // What the search has for an item: a spot, or none, as the stock is spent.
@@ -44,7 +44,7 @@ enum Offer {
 fn find_spot(
     trees: &[u32; ROW_WORDS],
     shape: Shape,
-    opened: u16,
+    opened: u32,
     opening: Opening,
     tree: usize,
     size: u32,
@@ -69,7 +69,8 @@ fn find_spot(
             })
         }
         Found::Nothing => {
-            if opening.stock <= opened {
+            let stock = opening.stock as u32;
+            if stock <= opened {
                 return Offer::Spent;
             }
             let place = opened as usize;
@@ -111,7 +112,7 @@ fn place_fitting(
     requires fits { ⌜ size ≤ opening .capacity ⌝ }
     ensures { λ r. ⌜ Done opening shape (store (now (trees .entry)) (now (ledger .entry)) counters) number (Shelve size) (r .answer) (store (now (trees .exit)) (now (ledger .exit)) (r .next)) ⌝ }
 {
-    let tree = aim::tree_for(size, opening.capacity, counters.phase, opening.m);
+    let tree = aim::tree_for(size, opening.capacity, counters.b2);
     let offer = find_spot(trees, shape, counters.opened, opening, tree, size);
     let Offer::Here(spot) = offer else {
         return refuse(number, ItemReason::StockSpent, counters);
@@ -119,7 +120,7 @@ fn place_fitting(
     let class = aim::home_of(tree) as u32;
     let a = aim::a_for(tree);
     let place = spot.place;
-    let next = aim::accept(counters, tree, spot.opened);
+    let next = aim::accept(counters, tree, spot.opened, opening.m);
     let bin = (place + 1) as u16;
     let free = spot.free;
     let answer = Answer {
@@ -157,9 +158,10 @@ pub fn place(
 
 // How many bins are opened.
 pub fn count(counters: Counters, number: usize) -> Answer
+    requires { ⌜ counters .opened ≤ 512 ⌝ }
     ensures { λ r. ⌜ Counting counters number r ⌝ }
 {
-    let opened = counters.opened;
+    let opened = counters.opened as u16;
     Answer {
         number,
         outcome: Outcome::Counted(opened),

@@ -28,6 +28,7 @@ pub fn answer_all(
         opened: 0,
         phase: 0,
         items: 0,
+        b2: 3,
     };
     let mut rest = reader::behind_opening(stream);
     let mut done: usize = 0;

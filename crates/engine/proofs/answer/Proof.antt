@@ -1,4 +1,5 @@
 -- `answer` meets its contract: each command by the function that answers it.
+use native.Mathlib.Omega.{arith}
 use borrow.Author.Needs.{needs}
 use Rattle.engine.proofs.Ways.{done-count}
 use Rattle.engine.proofs.answer.Statement.{statement}
@@ -14,7 +15,7 @@ enum-told : tie.Need-enum-told
 enum-told c = search needs
 
 count-requires : tie.Need-count-requires
-count-requires c κs = search needs
+count-requires c κs = let sound = c .before .before .pre .sound in omega (arith, sound .within, sound .stock, sound .index .forest .few)
 
 returns : tie.Need-returns
 returns c =

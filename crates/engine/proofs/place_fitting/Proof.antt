@@ -1,15 +1,19 @@
 -- `place_fitting` meets its contract: what is known of the item before the search, what the search has for it, and then each way out.
 use mathlib.Core.Path.{_≡_, sym, ap, subst, _∙_}
-use Prim.Native.Nat.{_<_}
+use Prim.Native.Nat.{ℕ, _<_}
 use native.Mathlib.Omega.{arith}
 use borrow.Author.Needs.{needs}
+use Rattle.packing.specs.SizeClasses.{numberOf}
+use Rattle.packing.specs.Bins.{kind}
+use Rattle.packing.specs.Run.{item}
+use Rattle.aim.specs.Aims.{treesWith, treeFor}
 use Rattle.aim.proofs.Aiming.{a-few, home-positive}
 use Rattle.ledger.specs.Rows.{classIn}
 use Rattle.engine.specs.declared.{Spot.Spot, Offer.Offer}
 use Rattle.engine.specs.declared.Offer.the-variants.{Here, Spent}
 use Rattle.engine.specs.Store.{store, Sound}
 use Rattle.engine.specs.Spots.{spotFor}
-use Rattle.engine.proofs.Aimed.{Aimed, tree-few, home-few}
+use Rattle.engine.proofs.Aimed.{Aimed, tree-few, home-few, phase-few}
 use Rattle.engine.proofs.Spotted.{Says, says}
 use Rattle.engine.proofs.Ways.{done-refused, done-placed}
 use Rattle.engine.proofs.place_fitting.Statement.{statement}
@@ -23,8 +27,14 @@ module _ (e : tie.After-tree-for) where
   sound : Sound (start .args .opening) (start .args .shape) (store (start .args .trees .now) (start .args .ledger .now) (start .args .counters))
   sound = start .pre .0 .sound
 
+  -- The tree for the next B2 is that of the phase.
+  tree-is : e .tree-for .result ≡ treeFor (kind (start .args .opening) (item (start .args .size))) (start .args .counters .phase) (start .args .opening .m)
+  tree-is =
+      e .tree-for .ensures
+      ∙ ap (λ (b2 : ℕ). numberOf (treesWith b2) (kind (start .args .opening) (item (start .args .size)))) (sound .b2)
+
   aimed : Aimed (start .args .opening) (start .args .counters) (start .args .size) (e .tree-for .result)
-  aimed = record { some = start .pre .1 .0; fits = start .pre .1 .1; phase = sound .phase; tree = e .tree-for .ensures }
+  aimed = record { some = start .pre .1 .0; fits = start .pre .1 .1; phase = sound .phase; tree = tree-is }
 
   -- What the search says of the item, by what it has for it.
   abbrev Said : Offer → Type 0
@@ -96,7 +106,7 @@ a-for-requires c κs = search needs
 accept-requires : tie.Need-accept-requires
 accept-requires c κs =
     let ready = start (searched (c .before .before)) .pre .0 in
-    (omega (arith, ready .sound .phase), ready .room)
+    record { room = ready .room; phase = ready .sound .phase; phase-after = phase-few (aimed (searched (c .before .before))); b2 = ready .sound .b2 }
 
 add-bin : tie.Need-add-bin
 add-bin c = omega (arith, few (c .before .before .before))

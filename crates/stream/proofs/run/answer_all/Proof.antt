@@ -2,10 +2,8 @@
 -- is the length of the rest.
 use mathlib.Core.Path.{_≡_, sym}
 use mathlib.Core.List.{List}
-use Prim.Native.Nat.{ℕ, _+_, _-_, _*_, _≤_, _<_}
+use Prim.Native.Nat.{ℕ, _+_, _-_, _≤_, _<_}
 use native.Mathlib.Omega.{arith}
-use mir.Syntax.{w64}
-use mir.Val.{Fits}
 use lib.ListN.{length}
 use borrow.Author.Needs.{needs}
 use Rattle.packing.specs.declared.{Command.Command, Answer.Answer}
@@ -89,9 +87,7 @@ word-of-requires : tie.Need-word-of-requires Inv-loop μ-loop
 word-of-requires c κs = search needs
 
 mul-answers : tie.Need-mul-answers Inv-loop μ-loop
-mul-answers c =
-    let fits : Fits w64 ((answer c .number - 1) * 2) = omega (arith, going-few (turn (read c) .loop .inv), answered c .answer .ensures .numbered) in
-    fits
+mul-answers c = omega (arith, going-few (turn (read c) .loop .inv), answered c .answer .ensures .numbered)
 
 slice-write-answers : tie.Need-slice-write-answers Inv-loop μ-loop
 slice-write-answers c = here c .0
@@ -102,8 +98,7 @@ free-units-of-requires c κs = search needs
 mul-free : tie.Need-mul-free Inv-loop μ-loop
 mul-free c =
     let w = c .before in
-    let fits : Fits w64 ((answer w .number - 1) * 4) = omega (arith, going-few (turn (read w) .loop .inv), answered w .answer .ensures .numbered) in
-    fits
+    omega (arith, going-few (turn (read w) .loop .inv), answered w .answer .ensures .numbered)
 
 slice-write-free : tie.Need-slice-write-free Inv-loop μ-loop
 slice-write-free c = here (c .before) .1
