@@ -1,12 +1,12 @@
 /*
  * shelf.h - the shelving library: Refined First-Fit over a command stream, the
  * vault sheet of a stream, and the plan checker. docs/MANUAL.md tells the whole
- * of it.
+ * of it. For C99 and later, and for C++.
  *
  * Link with libshelf.a, for x86-64 Linux: `rt staticlib shelf` proves the
  * library and writes target/staticlib/libshelf.a. A call allocates nothing and
- * needs about 29 KB of stack (shelve_stream), 38 KB (shelf_sheet) or 17 KB
- * (check_plan).
+ * needs about 29 KB of stack (shelf_stream), 54 KB (shelf_sheet) or 17 KB
+ * (shelf_check_plan).
  *
  * The calls are total: every input within the rules on pointers below has the
  * result described here. No call keeps a pointer, or any state, after it
@@ -15,22 +15,57 @@
  * Pointers. Each row is a pointer and its length in elements. A pointer must
  * be valid for that many elements, aligned for its type, and not NULL, also
  * where the length is 0 (any address of the type will do then; nothing is read
- * or written through it). Neither the answer row nor the sheet may overlap the
- * stream. The rows of check_plan are only read and may overlap.
- *
- * Limits.
- *     capacity of a cartridge             1 to 16777216
- *     stock of cartridges                 1 to 512
- *     m                                   6 to 9
- *     commands after the opening          0 to 4096
- *     entries of a plan, its masters, k   0 to 4096
- *     bytes of a stream with a sheet      0 to 32768
+ * or written through it). Neither row of shelf_stream may overlap the other or
+ * the stream, nor may the sheet overlap the stream. The rows of shelf_check_plan
+ * are only read and may overlap.
  */
 #ifndef SHELF_H
 #define SHELF_H
 
 #include <stddef.h>
 #include <stdint.h>
+
+/*
+ * The version of this interface. It is raised by one whenever a call, a command,
+ * a row, a result or a refusal is added or changes. Header and libshelf.a must
+ * be of one version: nothing checks it.
+ */
+#define SHELF_VERSION 2
+
+/* Limits. Capacity, stock and sizes are at least 1; what is counted may be 0. */
+#define SHELF_MAX_CAPACITY 16777216  /* units of a cartridge */
+#define SHELF_MAX_STOCK 512          /* cartridges */
+#define SHELF_MIN_M 6
+#define SHELF_MAX_M 9
+#define SHELF_MAX_COMMANDS 4096      /* after the opening */
+#define SHELF_MAX_ENTRIES 4096       /* of a plan; its masters; its k */
+#define SHELF_MAX_SHEET_STREAM 32768 /* bytes of a stream with a sheet */
+
+/* The most bytes of a sheet: 512 cartridge lines and 11 page lines of 41. */
+#define SHELF_SHEET_BYTES 21443
+
+/* The numbers of the refusals, in all calls and in answer words. */
+enum {
+    /* Of a stream. */
+    SHELF_REFUSAL_NOT_OPENED = 1,
+    SHELF_REFUSAL_UNKNOWN_COMMAND = 2,
+    SHELF_REFUSAL_CUT_SHORT = 3,
+    SHELF_REFUSAL_SECOND_OPENING = 4,
+    SHELF_REFUSAL_OPENING_OUTSIDE_LIMITS = 5,
+    SHELF_REFUSAL_TOO_MANY_COMMANDS = 6,
+    SHELF_REFUSAL_TOO_FEW_WORDS = 7,
+    /* Of one master. */
+    SHELF_REFUSAL_SIZE_ZERO = 8,
+    SHELF_REFUSAL_SIZE_ABOVE_CAPACITY = 9,
+    SHELF_REFUSAL_STOCK_SPENT = 10,
+    /* Of a plan. */
+    SHELF_REFUSAL_CAPACITY_OUTSIDE_LIMITS = 11,
+    SHELF_REFUSAL_ABOVE_LIMIT = 12,
+    SHELF_REFUSAL_ENTRY_SIZE = 13,
+    SHELF_REFUSAL_ENTRY_BIN = 14,
+    SHELF_REFUSAL_OVERFULL = 15,
+    SHELF_REFUSAL_OTHER_ITEMS = 16
+};
 
 #ifdef __cplusplus
 extern "C" {
@@ -47,10 +82,12 @@ extern "C" {
  *              The opening is the first command and comes once. The commands
  *              after it are numbered from 1.
  * answers      answers_len words.
+ * free_units   free_len words.
  *
  * If the stream is accepted, the result is
- *     masters accepted * 65536 + cartridges opened
- * (below 2^63), and answers[n - 1] holds the answer to command n:
+ *     masters accepted * 2^16 + cartridges opened
+ * (each below 2^16; bits 32 up are 0 in this version), and answers[n - 1] holds
+ * the answer to command n:
  *     to 02   the number of the cartridge the master lies in, 1 to the stock;
  *             cartridges are numbered in order of opening; or
  *             32768 + 8    the size is 0
@@ -59,11 +96,14 @@ extern "C" {
  *             of these the first that applies; a refused master leaves the
  *             shelf as it was, and the stream goes on
  *     to 03   the number of cartridges opened, 0 to the stock.
- * Words past the last command are untouched.
+ * free_units[n - 1] holds, where command n is answered by a master's cartridge,
+ * the units left free on that cartridge just after the master: the capacity less
+ * the cartridge's load then. For a refused master, and for 03, it holds 0. Words
+ * past the last command are untouched, in either row.
  *
  * If the stream is refused, the result is
  *     2^63 + number * 2^32 + offset
- * and every word of answers is untouched. The first faulty command decides; at
+ * and every word of both rows is untouched. The first faulty command decides; at
  * one command the order is 1, 6, 2, 4, 3, 5, and 7 comes last of all.
  *     number  offset                    condition
  *     1       0                         the stream is empty, or its first byte
@@ -75,22 +115,21 @@ extern "C" {
  *                                       outside its limits
  *     6       of the 4097th command     more than 4096 commands after the
  *             after the opening         opening
- *     7       the stream's length       answers_len is below the number of
- *                                       commands after the opening
+ *     7       the stream's length       answers_len or free_len is below the
+ *                                       number of commands after the opening
  *
- * A word does not tell a cartridge's number from a count: the command does.
+ * A word does not tell a cartridge's number from a count: the command does. Nor
+ * do 0 free units tell a full cartridge from a refusal: the answer does.
  */
-uint64_t shelve_stream(const uint8_t *stream, size_t stream_len,
-                       uint16_t *answers, size_t answers_len);
-
-/* The most bytes of a sheet: 512 cartridge lines and 11 page lines of 41. */
-#define SHELF_SHEET_BYTES 21443
+uint64_t shelf_stream(const uint8_t *stream, size_t stream_len,
+                      uint16_t *answers, size_t answers_len,
+                      uint32_t *free_units, size_t free_len);
 
 /*
  * Writes the vault sheet of a stream: a text, with a line for each cartridge
  * that is opened once all of the stream is shelved, and for no other.
  *
- * stream       stream_len bytes, only read, as for shelve_stream.
+ * stream       stream_len bytes, only read, as for shelf_stream.
  * sheet        SHELF_SHEET_BYTES bytes.
  *
  * The result is the length of the text, 0 to SHELF_SHEET_BYTES. The text stands
@@ -108,8 +147,8 @@ uint64_t shelve_stream(const uint8_t *stream, size_t stream_len,
  * loads add up to the sizes of the masters accepted.
  *
  * Where there is no sheet, the text is one line, not filled up:
- *     X number offset     the stream is refused, as by shelve_stream with 4096
- *                         answer words, so never with 7
+ *     X number offset     the stream is refused, as by shelf_stream with rows of
+ *                         4096 words, so never with 7
  *     L 32768             stream_len is above 32768, whatever the bytes are
  */
 uint64_t shelf_sheet(const uint8_t *stream, size_t stream_len, uint8_t *sheet);
@@ -127,7 +166,7 @@ uint64_t shelf_sheet(const uint8_t *stream, size_t stream_len, uint8_t *sheet);
  *              the number of cartridges used.
  *
  * The result is 0 if the plan passes. Otherwise it is
- *     number * 2^32 + place
+ *     2^63 + number * 2^32 + place
  * for the first of these, where "length" is the plan's number of entries:
  *     number  place                     condition
  *     11      0                         capacity outside its limits
@@ -142,30 +181,104 @@ uint64_t shelf_sheet(const uint8_t *stream, size_t stream_len, uint8_t *sheet);
  *     15      of the entry              with it, the sizes in its cartridge
  *                                       exceed the capacity
  */
-uint64_t check_plan(const uint32_t *sizes, size_t sizes_len,
-                    const uint32_t *bins, size_t bins_len,
-                    const uint32_t *items, size_t items_len,
-                    uint32_t capacity, uint32_t k);
-
-/*
- * Reading the results. STREAM_ is for shelve_stream, PLAN_ for check_plan, and
- * ANSWER_ for an answer word.
- */
-#define SHELF_STREAM_REFUSED(result) ((int)((uint64_t)(result) >> 63))
-#define SHELF_STREAM_MASTERS(result) ((uint32_t)((uint64_t)(result) >> 16))
-#define SHELF_STREAM_OPENED(result) ((uint32_t)((uint64_t)(result) & 0xffffu))
-#define SHELF_STREAM_NUMBER(result) \
-    ((uint32_t)((uint64_t)(result) >> 32) & 0x7fffffffu)
-#define SHELF_STREAM_OFFSET(result) ((uint32_t)((uint64_t)(result) & 0xffffffffu))
-
-#define SHELF_PLAN_NUMBER(result) ((uint32_t)((uint64_t)(result) >> 32))
-#define SHELF_PLAN_PLACE(result) ((uint32_t)((uint64_t)(result) & 0xffffffffu))
-
-#define SHELF_ANSWER_REFUSED(word) ((int)((uint16_t)(word) >> 15))
-#define SHELF_ANSWER_NUMBER(word) ((uint32_t)((uint16_t)(word) & 0x7fffu))
+uint64_t shelf_check_plan(const uint32_t *sizes, size_t sizes_len,
+                          const uint32_t *bins, size_t bins_len,
+                          const uint32_t *items, size_t items_len,
+                          uint32_t capacity, uint32_t k);
 
 #ifdef __cplusplus
 }
 #endif
+
+/*
+ * Reading a result of shelf_stream or shelf_check_plan.
+ */
+
+/* Whether the stream or the plan is refused. */
+static inline int shelf_is_refused(uint64_t result)
+{
+    return (result >> 63) != 0;
+}
+
+/* The number of its refusal; 0 if it is not refused. */
+static inline uint32_t shelf_refusal(uint64_t result)
+{
+    return shelf_is_refused(result) ? (result >> 32) & 0x7fffffffu : 0;
+}
+
+/* Of a refused stream the offset, of a refused plan the place. */
+static inline uint32_t shelf_place(uint64_t result)
+{
+    return result & 0xffffffffu;
+}
+
+/* Of an accepted stream the masters accepted. */
+static inline uint32_t shelf_items(uint64_t result)
+{
+    return (result >> 16) & 0xffffu;
+}
+
+/* Of an accepted stream the cartridges opened. */
+static inline uint32_t shelf_opened(uint64_t result)
+{
+    return result & 0xffffu;
+}
+
+/*
+ * Reading an answer word of an accepted stream.
+ */
+
+/* Whether the master is refused. */
+static inline int shelf_answer_is_refused(uint16_t word)
+{
+    return word >= 0x8000u;
+}
+
+/* The number of its refusal; 0 if it is not refused. */
+static inline uint32_t shelf_answer_refusal(uint16_t word)
+{
+    return shelf_answer_is_refused(word) ? word & 0x7fffu : 0;
+}
+
+/* A refusal in words, by its number; never NULL. */
+static inline const char *shelf_refusal_name(uint32_t number)
+{
+    switch (number) {
+    case SHELF_REFUSAL_NOT_OPENED:
+        return "the stream is empty or does not start with an opening";
+    case SHELF_REFUSAL_UNKNOWN_COMMAND:
+        return "unknown command byte";
+    case SHELF_REFUSAL_CUT_SHORT:
+        return "operands cut short by the end of the stream";
+    case SHELF_REFUSAL_SECOND_OPENING:
+        return "a second opening";
+    case SHELF_REFUSAL_OPENING_OUTSIDE_LIMITS:
+        return "capacity, stock or m outside its limits";
+    case SHELF_REFUSAL_TOO_MANY_COMMANDS:
+        return "more than 4096 commands after the opening";
+    case SHELF_REFUSAL_TOO_FEW_WORDS:
+        return "fewer words in a row than commands after the opening";
+    case SHELF_REFUSAL_SIZE_ZERO:
+        return "size 0";
+    case SHELF_REFUSAL_SIZE_ABOVE_CAPACITY:
+        return "size above the capacity";
+    case SHELF_REFUSAL_STOCK_SPENT:
+        return "a new cartridge is called for and the stock is spent";
+    case SHELF_REFUSAL_CAPACITY_OUTSIDE_LIMITS:
+        return "capacity outside its limits";
+    case SHELF_REFUSAL_ABOVE_LIMIT:
+        return "k, the plan or the list of masters above 4096";
+    case SHELF_REFUSAL_ENTRY_SIZE:
+        return "the entry's size is 0 or above the capacity";
+    case SHELF_REFUSAL_ENTRY_BIN:
+        return "the entry's cartridge is 0 or above k";
+    case SHELF_REFUSAL_OVERFULL:
+        return "with this entry its cartridge exceeds the capacity";
+    case SHELF_REFUSAL_OTHER_ITEMS:
+        return "the plan is not of these masters";
+    default:
+        return "no refusal has this number";
+    }
+}
 
 #endif

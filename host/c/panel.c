@@ -1,6 +1,7 @@
 /* A panel's round: open a shelf, shelve, read the answers, print the vault sheet,
  * check a plan. */
 
+#include <inttypes.h>
 #include <stdio.h>
 
 #include "shelf.h"
@@ -10,85 +11,91 @@ enum { MASTERS = 9, COMMANDS = MASTERS + 1 };
 
 static const uint32_t masters[MASTERS] = {35, 22, 22, 22, 22, 22, 22, 20, 61};
 
-/* Writes a number of so many bytes, most significant first. */
-static uint8_t *put(uint8_t *at, uint32_t number, int bytes)
+static uint8_t stream[8 + 5 * COMMANDS];
+static size_t length;
+
+/* Appends a number of so many bytes, most significant first. */
+static void put(uint32_t number, int bytes)
 {
     while (bytes-- > 0)
-        *at++ = (uint8_t)(number >> (8 * bytes));
-    return at;
+        stream[length++] = (number >> (8 * bytes)) & 0xff;
 }
 
-static void print_sheet(const uint8_t *stream, size_t stream_len)
+static void print_sheet(void)
 {
     static uint8_t sheet[SHELF_SHEET_BYTES];
 
-    fwrite(sheet, 1, (size_t)shelf_sheet(stream, stream_len, sheet), stdout);
+    fwrite(sheet, 1, shelf_sheet(stream, length, sheet), stdout);
 }
 
 static void report(const char *plan, uint64_t result)
 {
-    if (result == 0)
+    uint32_t refusal = shelf_refusal(result);
+
+    if (refusal == 0)
         printf("%s: passed\n", plan);
     else
-        printf("%s: refused %u at place %u\n", plan,
-               (unsigned)SHELF_PLAN_NUMBER(result),
-               (unsigned)SHELF_PLAN_PLACE(result));
+        printf("%s: refusal %" PRIu32 " at place %" PRIu32 ": %s\n", plan,
+               refusal, shelf_place(result), shelf_refusal_name(refusal));
 }
 
 int main(void)
 {
-    uint8_t stream[8 + 5 * COMMANDS];
     uint16_t answers[COMMANDS];
+    uint32_t free_units[COMMANDS];
     uint32_t sizes[MASTERS], bins[MASTERS];
     size_t entries = 0, i;
     uint64_t result;
-    uint32_t opened;
-    uint8_t *end = stream;
+    uint32_t refusal, opened;
 
-    *end++ = 0x01;
-    end = put(end, CAPACITY, 4);
-    end = put(end, STOCK, 2);
-    end = put(end, M, 1);
+    put(0x01, 1);
+    put(CAPACITY, 4);
+    put(STOCK, 2);
+    put(M, 1);
     for (i = 0; i < MASTERS; i++) {
-        *end++ = 0x02;
-        end = put(end, masters[i], 4);
+        put(0x02, 1);
+        put(masters[i], 4);
     }
-    *end++ = 0x03;
+    put(0x03, 1);
 
-    result = shelve_stream(stream, (size_t)(end - stream), answers, COMMANDS);
-    if (SHELF_STREAM_REFUSED(result)) {
-        printf("refused %u at byte %u\n", (unsigned)SHELF_STREAM_NUMBER(result),
-               (unsigned)SHELF_STREAM_OFFSET(result));
+    result = shelf_stream(stream, length, answers, COMMANDS, free_units,
+                          COMMANDS);
+    if (shelf_is_refused(result)) {
+        refusal = shelf_refusal(result);
+        fprintf(stderr, "refusal %" PRIu32 " at byte %" PRIu32 ": %s\n", refusal,
+                shelf_place(result), shelf_refusal_name(refusal));
         return 1;
     }
 
     /* The accepted masters and where they lie are a plan of their own. */
     for (i = 0; i < MASTERS; i++) {
-        if (SHELF_ANSWER_REFUSED(answers[i])) {
-            printf("master of %u: refused %u\n", (unsigned)masters[i],
-                   (unsigned)SHELF_ANSWER_NUMBER(answers[i]));
+        if (shelf_answer_is_refused(answers[i])) {
+            refusal = shelf_answer_refusal(answers[i]);
+            printf("master of %" PRIu32 ": refused %" PRIu32 ", %s\n",
+                   masters[i], refusal, shelf_refusal_name(refusal));
         } else {
-            printf("master of %u: cartridge %u\n", (unsigned)masters[i],
-                   (unsigned)answers[i]);
+            printf("master of %" PRIu32 ": cartridge %" PRIu16 ", %" PRIu32
+                   " free\n",
+                   masters[i], answers[i], free_units[i]);
             sizes[entries] = masters[i];
             bins[entries] = answers[i];
             entries++;
         }
     }
-    printf("%u cartridges opened\n", (unsigned)answers[MASTERS]);
-    opened = SHELF_STREAM_OPENED(result);
-    printf("%u masters in %u cartridges\n",
-           (unsigned)SHELF_STREAM_MASTERS(result), (unsigned)opened);
-    print_sheet(stream, (size_t)(end - stream));
+    printf("%" PRIu16 " cartridges opened\n", answers[MASTERS]);
+    opened = shelf_opened(result);
+    printf("%" PRIu32 " masters in %" PRIu32 " cartridges\n",
+           shelf_items(result), opened);
+    print_sheet();
 
     report("the shelf's own plan",
-           check_plan(sizes, entries, bins, entries, sizes, entries, CAPACITY,
-                      opened));
+           shelf_check_plan(sizes, entries, bins, entries, sizes, entries,
+                            CAPACITY, opened));
 
     /* Moving the first 22 beside the 35 and another 22 overfills cartridge 1. */
     bins[1] = 1;
     report("a crowded plan",
-           check_plan(sizes, entries, bins, entries, sizes, entries, CAPACITY,
-                      opened));
+           shelf_check_plan(sizes, entries, bins, entries, sizes, entries,
+                            CAPACITY, opened));
     return 0;
 }

@@ -11,8 +11,8 @@ fn main() {
     }
     stream.count();
 
-    let mut words = stream.answer_row();
-    let totals = match shelf::shelve(stream.bytes(), &mut words) {
+    let (mut words, mut free) = stream.rows();
+    let totals = match shelf::shelve(stream.bytes(), &mut words, &mut free) {
         Ok(totals) => totals,
         Err(refusal) => {
             eprintln!("{refusal}");
@@ -22,10 +22,10 @@ fn main() {
 
     // The accepted masters and where they lie are a plan of their own.
     let mut plan = Vec::new();
-    for answered in shelf::answers(stream.bytes(), &words) {
+    for answered in shelf::answers(stream.bytes(), &words, &free) {
         match answered {
-            (Command::Shelve { size }, Answer::Placed { bin }) => {
-                println!("master of {size}: cartridge {bin}");
+            (Command::Shelve { size }, Answer::Placed { bin, free }) => {
+                println!("master of {size}: cartridge {bin}, {free} free");
                 let bin = bin.into();
                 plan.push(Entry { size, bin });
             }

@@ -1,7 +1,7 @@
 //! Safe calls into the proved shelving library: Refined First-Fit over a
 //! command stream, the vault sheet of a stream, and the plan checker.
 //!
-//! Build a stream, lend it with a row of answer words, read the answers:
+//! Build a stream, lend it with two rows of words, read the answers:
 //!
 //! ```
 //! use shelf::{Answer, ItemRefusal, StreamBuilder};
@@ -9,15 +9,15 @@
 //! let mut stream = StreamBuilder::open(60, 2, 6); // capacity 60, stock 2, every 6th B2
 //! stream.shelve(35).shelve(30).count().shelve(40);
 //!
-//! let mut words = stream.answer_row();
-//! let totals = shelf::shelve(stream.bytes(), &mut words).expect("a well-formed stream");
+//! let (mut words, mut free) = stream.rows();
+//! let totals = shelf::shelve(stream.bytes(), &mut words, &mut free).expect("a well-formed stream");
 //! assert_eq!((totals.items, totals.opened), (2, 2));
 //!
-//! let answers = shelf::answers(stream.bytes(), &words);
+//! let answers = shelf::answers(stream.bytes(), &words, &free);
 //! let answers: Vec<Answer> = answers.map(|(_command, answer)| answer).collect();
 //! assert_eq!(answers, [
-//!     Answer::Placed { bin: 1 },
-//!     Answer::Placed { bin: 2 },
+//!     Answer::Placed { bin: 1, free: 25 }, // 25 units are left on it just after the item
+//!     Answer::Placed { bin: 2, free: 30 },
 //!     Answer::Counted { opened: 2 },
 //!     Answer::Refused(ItemRefusal::StockSpent),
 //! ]);
@@ -55,16 +55,18 @@ pub const SHEET_BYTES: usize = 21_443;
 
 mod ffi {
     extern "C" {
-        pub fn shelve_stream(
+        pub fn shelf_stream(
             stream: *const u8,
             stream_len: usize,
             answers: *mut u16,
             answers_len: usize,
+            free_units: *mut u32,
+            free_len: usize,
         ) -> u64;
 
         pub fn shelf_sheet(stream: *const u8, stream_len: usize, sheet: *mut u8) -> u64;
 
-        pub fn check_plan(
+        pub fn shelf_check_plan(
             sizes: *const u32,
             sizes_len: usize,
             bins: *const u32,
@@ -97,32 +99,47 @@ pub struct Entry {
 
 /// Shelves a whole stream.
 ///
-/// On success word `n - 1` of `answers` holds the answer to command `n` after
-/// the opening (see [`answers`] to read it), and the words past the last
-/// command are untouched. A refused stream leaves every word untouched.
+/// On success word `n - 1` of each row answers command `n` after the opening:
+/// in `answers` by the item's bin, the count or the refusal, in `free` by the
+/// units left free on that bin just after the item, and by 0 where no item was
+/// placed ([`answers`] reads them). The words past the last command are
+/// untouched. A refused stream leaves every word of both rows untouched.
 ///
 /// ```
-/// use shelf::StreamFault;
+/// use shelf::{StreamBuilder, StreamFault};
 ///
-/// let refusal = shelf::shelve(&[0x03], &mut []).unwrap_err();
-/// assert_eq!(refusal.fault, StreamFault::NotOpened);
-/// assert_eq!((refusal.fault.number(), refusal.offset), (1, 0));
+/// let mut stream = StreamBuilder::open(60, 4, 6);
+/// stream.shelve(35).shelve(61);
+/// let (mut words, mut free) = ([0; 3], [7; 3]);
+/// shelf::shelve(stream.bytes(), &mut words, &mut free).expect("a well-formed stream");
+/// assert_eq!((words, free), ([1, 32_768 + 9, 0], [25, 0, 7]));
+///
+/// // Either row may be too short.
+/// let refusal = shelf::shelve(stream.bytes(), &mut words, &mut free[..1]).unwrap_err();
+/// assert_eq!(refusal.fault, StreamFault::TooFewWords);
+/// assert_eq!((refusal.fault.number(), refusal.offset), (7, 18));
 /// ```
-pub fn shelve(stream: &[u8], answers: &mut [u16]) -> Result<Totals, StreamRefusal> {
+pub fn shelve(
+    stream: &[u8],
+    answers: &mut [u16],
+    free: &mut [u32],
+) -> Result<Totals, StreamRefusal> {
     // SAFETY: each pointer comes with the length of the slice it was taken
-    // from; `answers` is borrowed mutably, so it overlaps nothing; the library
+    // from; the rows are borrowed mutably, so they overlap nothing; the library
     // keeps neither the pointers nor any state after the call.
     let code = unsafe {
-        ffi::shelve_stream(
+        ffi::shelf_stream(
             stream.as_ptr(),
             stream.len(),
             answers.as_mut_ptr(),
             answers.len(),
+            free.as_mut_ptr(),
+            free.len(),
         )
     };
     match results::of_stream(code) {
         Some(result) => result,
-        None => panic!("shelve_stream returned {code:#x}, which its interface excludes"),
+        None => panic!("shelf_stream returned {code:#x}, which its interface excludes"),
     }
 }
 
@@ -209,7 +226,7 @@ pub fn check_plan_rows(
     // SAFETY: each pointer comes with the length of the slice it was taken
     // from, and the library only reads them, during the call.
     let code = unsafe {
-        ffi::check_plan(
+        ffi::shelf_check_plan(
             sizes.as_ptr(),
             sizes.len(),
             bins.as_ptr(),
@@ -222,7 +239,7 @@ pub fn check_plan_rows(
     };
     match results::of_plan(code) {
         Some(result) => result,
-        None => panic!("check_plan returned {code:#x}, which its interface excludes"),
+        None => panic!("shelf_check_plan returned {code:#x}, which its interface excludes"),
     }
 }
 
@@ -237,9 +254,9 @@ mod tests {
             items: 0,
             opened: 0,
         };
-        assert_eq!(shelve(&opening, &mut []), Ok(none));
+        assert_eq!(shelve(&opening, &mut [], &mut []), Ok(none));
         assert_eq!(check_plan(&[], &[], 1, 0), Ok(()));
-        let refusal = shelve(&[], &mut []).unwrap_err();
+        let refusal = shelve(&[], &mut [], &mut []).unwrap_err();
         assert_eq!((refusal.fault.number(), refusal.offset), (1, 0));
     }
 
@@ -249,18 +266,19 @@ mod tests {
         for _ in 0..MAX_STOCK {
             stream.shelve(MAX_CAPACITY);
         }
-        let mut words = stream.answer_row();
-        let totals = shelve(stream.bytes(), &mut words).unwrap();
+        let (mut words, mut free) = stream.rows();
+        let totals = shelve(stream.bytes(), &mut words, &mut free).unwrap();
         assert_eq!((totals.items, totals.opened), (512, 512));
-        assert_eq!(words[511], 512);
+        assert_eq!((words[511], free[511]), (512, 0));
 
-        let mut small = StreamBuilder::open(MAX_COMMANDS as u32 * 3, 1, 6);
+        let mut small = StreamBuilder::open(MAX_CAPACITY, 1, 6);
         for _ in 0..MAX_COMMANDS {
             small.shelve(1);
         }
-        let mut words = small.answer_row();
-        let totals = shelve(small.bytes(), &mut words).unwrap();
+        let (mut words, mut free) = small.rows();
+        let totals = shelve(small.bytes(), &mut words, &mut free).unwrap();
         assert_eq!((totals.items, totals.opened), (4096, 1));
+        assert_eq!((free[0], free[4095]), (16_777_215, 16_773_120));
     }
 
     #[test]

@@ -47,7 +47,7 @@ refusals! {
         SecondOpening = 4 "a second opening"
         OpeningOutsideLimits = 5 "capacity, stock or m outside its limits"
         TooManyCommands = 6 "more than 4096 commands after the opening"
-        TooFewAnswerWords = 7 "fewer answer words than commands after the opening"
+        TooFewWords = 7 "fewer words in a row than commands after the opening"
     }
 }
 
@@ -78,7 +78,7 @@ pub struct StreamRefusal {
     /// What is wrong.
     pub fault: StreamFault,
     /// The offset of the faulty command's byte; 0 for faults of the opening,
-    /// the stream's length for too few answer words.
+    /// the stream's length for too few words.
     pub offset: usize,
 }
 

@@ -2,36 +2,33 @@
 
 use crate::{PlanFault, PlanRefusal, StreamFault, StreamRefusal, Totals};
 
-/// Set in the number of a refused stream, clear in that of an accepted one.
+/// Set in the number of whatever is refused, clear in every other.
 const REFUSED: u64 = 1 << 63;
 
-/// A refusal's number in the high half, its offset or place in the low one.
-fn halves(code: u64) -> (u32, usize) {
-    ((code >> 32) as u32, code as u32 as usize)
+/// A refusal's number, and its offset or place; `None` if nothing is refused.
+fn refusal(code: u64) -> Option<(u32, usize)> {
+    let number = ((code ^ REFUSED) >> 32) as u32;
+    (code & REFUSED != 0).then_some((number, code as u32 as usize))
 }
 
-/// What `shelve_stream` returned: bit 63 alone tells whether the stream was
-/// accepted. `None` if the interface excludes the number.
+/// What `shelf_stream` returned. `None` if the interface excludes the number.
 pub fn of_stream(code: u64) -> Option<Result<Totals, StreamRefusal>> {
-    if code & REFUSED == 0 {
-        let items = u16::try_from(code >> 16).ok()?;
-        let opened = code as u16;
-        return Some(Ok(Totals { items, opened }));
+    if let Some((number, offset)) = refusal(code) {
+        let fault = StreamFault::from_number(number)?;
+        return Some(Err(StreamRefusal { fault, offset }));
     }
-    let (number, offset) = halves(code ^ REFUSED);
-    let fault = StreamFault::from_number(number)?;
-    Some(Err(StreamRefusal { fault, offset }))
+    let (items, opened) = ((code >> 16) as u16, code as u16);
+    (code >> 32 == 0).then_some(Ok(Totals { items, opened }))
 }
 
-/// What `check_plan` returned: a plan passes with 0 and no other number. `None`
-/// if the interface excludes the number.
+/// What `shelf_check_plan` returned: a plan passes with 0 and no other number.
+/// `None` if the interface excludes the number.
 pub fn of_plan(code: u64) -> Option<Result<(), PlanRefusal>> {
-    if code == 0 {
-        return Some(Ok(()));
+    if let Some((number, place)) = refusal(code) {
+        let fault = PlanFault::from_number(number)?;
+        return Some(Err(PlanRefusal { fault, place }));
     }
-    let (number, place) = halves(code);
-    let fault = PlanFault::from_number(number)?;
-    Some(Err(PlanRefusal { fault, place }))
+    (code == 0).then_some(Ok(()))
 }
 
 #[cfg(test)]
@@ -44,7 +41,7 @@ mod tests {
         assert_eq!(of_stream(0), totals(0, 0));
         assert_eq!(of_stream(4096 << 16 | 512), totals(4096, 512));
         assert_eq!(of_stream(0xFFFF_FFFF), totals(0xFFFF, 0xFFFF));
-        let fault = StreamFault::TooFewAnswerWords;
+        let fault = StreamFault::TooFewWords;
         let offset = 0xFFFF_FFFF;
         let refused = Some(Err(StreamRefusal { fault, offset }));
         assert_eq!(of_stream(REFUSED | 7 << 32 | 0xFFFF_FFFF), refused);
@@ -55,7 +52,7 @@ mod tests {
         assert_eq!(of_plan(0), Some(Ok(())));
         let fault = PlanFault::OtherItems;
         let refused = Some(Err(PlanRefusal { fault, place: 1 }));
-        assert_eq!(of_plan(16 << 32 | 1), refused);
+        assert_eq!(of_plan(REFUSED | 16 << 32 | 1), refused);
     }
 
     #[test]
@@ -63,7 +60,7 @@ mod tests {
         for code in [1 << 32, 7 << 32, REFUSED - 1, REFUSED, REFUSED | 8 << 32] {
             assert_eq!(of_stream(code), None);
         }
-        for code in [1, 10 << 32, 17 << 32, REFUSED | 11 << 32] {
+        for code in [1, 11 << 32, REFUSED | 10 << 32, REFUSED | 17 << 32] {
             assert_eq!(of_plan(code), None);
         }
     }

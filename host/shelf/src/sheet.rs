@@ -157,8 +157,8 @@ mod tests {
         for size in 1..=120 {
             stream.shelve(size);
         }
-        let mut words = stream.answer_row();
-        let totals = shelve(stream.bytes(), &mut words).unwrap();
+        let (mut words, mut free) = stream.rows();
+        let totals = shelve(stream.bytes(), &mut words, &mut free).unwrap();
         let accepted = (1..).zip(&words).filter(|(_, &word)| word < 0x8000);
         let sheet = sheet(stream.bytes());
         let loads = sheet.rows().iter().map(|row| row.load);

@@ -1,5 +1,8 @@
 //! Streams as bytes, and answers as words.
 
+use std::iter::Zip;
+use std::slice::Iter;
+
 use crate::ItemRefusal;
 
 const OPEN: u8 = 0x01;
@@ -103,9 +106,10 @@ impl StreamBuilder {
         self.bytes
     }
 
-    /// A row of answer words just long enough for this stream.
-    pub fn answer_row(&self) -> Vec<u16> {
-        vec![0; self.commands]
+    /// The two rows to lend with this stream, just long enough: of answer
+    /// words, and of free units.
+    pub fn rows(&self) -> (Vec<u16>, Vec<u32>) {
+        (vec![0; self.commands], vec![0; self.commands])
     }
 }
 
@@ -116,6 +120,10 @@ pub enum Answer {
     Placed {
         /// The bin's number, from 1.
         bin: u16,
+        /// The units left free on the bin just after the item. Until another
+        /// is answered this bin, an item that is permitted there fits exactly
+        /// if its size is at most this.
+        free: u32,
     },
     /// So many bins are opened.
     Counted {
@@ -127,30 +135,35 @@ pub enum Answer {
 }
 
 impl Answer {
-    /// Reads the answer word of a shelve command. `None` if it is no word that
-    /// the library writes.
+    /// Reads the answer to a command from its word and the free units beside
+    /// it. `None` if the library answers it by no such words.
     ///
     /// ```
-    /// use shelf::{Answer, ItemRefusal};
+    /// use shelf::{Answer, Command, ItemRefusal};
     ///
-    /// assert_eq!(Answer::to_shelve(7), Some(Answer::Placed { bin: 7 }));
-    /// assert_eq!(
-    ///     Answer::to_shelve(32_768 + 10),
-    ///     Some(Answer::Refused(ItemRefusal::StockSpent)),
-    /// );
-    /// assert_eq!(Answer::to_shelve(0), None);
+    /// let shelve = Command::Shelve { size: 35 };
+    /// let placed = Answer::Placed { bin: 7, free: 25 };
+    /// assert_eq!(Answer::to(shelve, 7, 25), Some(placed));
+    /// let refused = Answer::Refused(ItemRefusal::StockSpent);
+    /// assert_eq!(Answer::to(shelve, 32_768 + 10, 0), Some(refused));
+    /// let counted = Answer::Counted { opened: 7 };
+    /// assert_eq!(Answer::to(Command::Count, 7, 0), Some(counted));
+    ///
+    /// assert_eq!(Answer::to(shelve, 0, 60), None);
+    /// assert_eq!(Answer::to(Command::Count, 7, 25), None);
     /// ```
-    pub fn to_shelve(word: u16) -> Option<Self> {
-        if word & REFUSED != 0 {
-            ItemRefusal::from_number((word & !REFUSED).into()).map(Self::Refused)
-        } else {
-            (word != 0).then_some(Self::Placed { bin: word })
-        }
-    }
-
-    /// Reads the answer word of a count command, where every word is a count.
-    pub fn to_count(word: u16) -> Self {
-        Self::Counted { opened: word }
+    pub fn to(command: Command, word: u16, free: u32) -> Option<Self> {
+        let answer = match command {
+            Command::Count => Self::Counted { opened: word },
+            Command::Shelve { .. } if word & REFUSED == 0 => {
+                return (word != 0).then_some(Self::Placed { bin: word, free });
+            }
+            Command::Shelve { .. } => {
+                let number = word & !REFUSED;
+                Self::Refused(ItemRefusal::from_number(number.into())?)
+            }
+        };
+        (free == 0).then_some(answer)
     }
 }
 
@@ -221,19 +234,19 @@ impl Iterator for Commands<'_> {
 ///
 /// let mut stream = StreamBuilder::open(60, 4, 6);
 /// stream.shelve(35).count();
-/// let mut words = stream.answer_row();
-/// shelf::shelve(stream.bytes(), &mut words).expect("a well-formed stream");
+/// let (mut words, mut free) = stream.rows();
+/// shelf::shelve(stream.bytes(), &mut words, &mut free).expect("a well-formed stream");
 ///
-/// let mut answers = shelf::answers(stream.bytes(), &words);
-/// let placed = (Command::Shelve { size: 35 }, Answer::Placed { bin: 1 });
+/// let mut answers = shelf::answers(stream.bytes(), &words, &free);
+/// let placed = (Command::Shelve { size: 35 }, Answer::Placed { bin: 1, free: 25 });
 /// assert_eq!(answers.next(), Some(placed));
 /// assert_eq!(answers.next(), Some((Command::Count, Answer::Counted { opened: 1 })));
 /// assert_eq!(answers.next(), None);
 /// ```
-pub fn answers<'a>(stream: &'a [u8], words: &'a [u16]) -> Answers<'a> {
+pub fn answers<'a>(stream: &'a [u8], words: &'a [u16], free: &'a [u32]) -> Answers<'a> {
     Answers {
         commands: commands(stream),
-        words: words.iter(),
+        words: words.iter().zip(free),
     }
 }
 
@@ -241,7 +254,7 @@ pub fn answers<'a>(stream: &'a [u8], words: &'a [u16]) -> Answers<'a> {
 #[derive(Debug, Clone)]
 pub struct Answers<'a> {
     commands: Commands<'a>,
-    words: std::slice::Iter<'a, u16>,
+    words: Zip<Iter<'a, u16>, Iter<'a, u32>>,
 }
 
 impl Iterator for Answers<'_> {
@@ -249,11 +262,7 @@ impl Iterator for Answers<'_> {
 
     fn next(&mut self) -> Option<(Command, Answer)> {
         let (_offset, command) = self.commands.next()?;
-        let word = *self.words.next()?;
-        let answer = match command {
-            Command::Shelve { .. } => Answer::to_shelve(word)?,
-            Command::Count => Answer::to_count(word),
-        };
-        Some((command, answer))
+        let (&word, &free) = self.words.next()?;
+        Some((command, Answer::to(command, word, free)?))
     }
 }

@@ -1,0 +1,71 @@
+/* What shelf.h says without a call: limits, decoders, names. It is included
+ * twice here, and once more in header_main.c. */
+
+#include <string.h>
+
+#include "shelf.h"
+#include "shelf.h"
+
+#if SHELF_VERSION != 2
+#error "these are the checks of version 2"
+#endif
+
+#if SHELF_MIN_M > SHELF_MAX_M || SHELF_MAX_CAPACITY < SHELF_MAX_SHEET_STREAM
+#error "the limits are numbers to the preprocessor too"
+#endif
+
+#define CHECK(holds)                                                           \
+    if (!(holds))                                                              \
+        return __LINE__
+
+int check_header(void);
+
+/* The line of the first check that fails, or 0. */
+int check_header(void)
+{
+    const uint64_t accepted = 0x0000000010000200u;
+    const uint64_t with_more = 0x7fffffff10000200u;
+    const uint64_t no_words = 0x8000000700005008u;
+    const uint64_t last_plan = 0x80000010ffffffffu;
+    static const uint16_t figures[] = {0, 1, SHELF_MAX_STOCK, 0x7fff};
+    uint32_t number, other;
+    size_t i;
+
+    CHECK(!shelf_is_refused(accepted));
+    CHECK(shelf_refusal(accepted) == 0);
+    CHECK(shelf_items(accepted) == SHELF_MAX_COMMANDS);
+    CHECK(shelf_opened(accepted) == SHELF_MAX_STOCK);
+
+    /* What stands above the two figures is not taken for them. */
+    CHECK(!shelf_is_refused(with_more));
+    CHECK(shelf_refusal(with_more) == 0);
+    CHECK(shelf_items(with_more) == SHELF_MAX_COMMANDS);
+    CHECK(shelf_opened(with_more) == SHELF_MAX_STOCK);
+
+    CHECK(shelf_is_refused(no_words));
+    CHECK(shelf_refusal(no_words) == SHELF_REFUSAL_TOO_FEW_WORDS);
+    CHECK(shelf_place(no_words) == 20488);
+
+    CHECK(!shelf_is_refused(0) && shelf_refusal(0) == 0);
+    CHECK(shelf_is_refused(last_plan));
+    CHECK(shelf_refusal(last_plan) == SHELF_REFUSAL_OTHER_ITEMS);
+    CHECK(shelf_place(last_plan) == 0xffffffff);
+
+    for (i = 0; i < sizeof figures / sizeof *figures; i++) {
+        CHECK(!shelf_answer_is_refused(figures[i]));
+        CHECK(shelf_answer_refusal(figures[i]) == 0);
+    }
+    CHECK(shelf_answer_is_refused(32776));
+    CHECK(shelf_answer_refusal(32776) == SHELF_REFUSAL_SIZE_ZERO);
+    CHECK(shelf_answer_refusal(32777) == SHELF_REFUSAL_SIZE_ABOVE_CAPACITY);
+    CHECK(shelf_answer_refusal(32778) == SHELF_REFUSAL_STOCK_SPENT);
+
+    /* Sixteen names, no two alike, and one for all other numbers. */
+    for (number = 0; number <= SHELF_REFUSAL_OTHER_ITEMS; number++)
+        for (other = 0; other < number; other++)
+            CHECK(strcmp(shelf_refusal_name(number),
+                         shelf_refusal_name(other)) != 0);
+    CHECK(strcmp(shelf_refusal_name(17), shelf_refusal_name(0)) == 0);
+    CHECK(strcmp(shelf_refusal_name(0xffffffff), shelf_refusal_name(0)) == 0);
+    return 0;
+}

@@ -1,0 +1,77 @@
+// The header from C++: its calls over the rows of vectors, and its decoders as
+// functions to hand on. It is included twice here, and once more in
+// header_main.c.
+
+#include <cstddef>
+#include <string>
+#include <vector>
+
+#include "shelf.h"
+#include "shelf.h"
+
+#define CHECK(holds)                                                           \
+    if (!(holds))                                                              \
+        return __LINE__
+
+int check_header();
+
+namespace {
+
+// A capacity of 60, a stock of 1, m 6; masters of 35 and of 40, and a count.
+const std::vector<uint8_t> stream = {1, 0, 0, 0, 60, 0, 1, 6, 2, 0, 0,
+                                     0, 35, 2, 0, 0, 0, 40, 3};
+
+uint64_t shelve(std::vector<uint16_t> &answers, std::vector<uint32_t> &free_units)
+{
+    return shelf_stream(stream.data(), stream.size(), answers.data(),
+                        answers.size(), free_units.data(), free_units.size());
+}
+
+uint64_t check_plan(const std::vector<uint32_t> &sizes, uint32_t bin)
+{
+    const std::vector<uint32_t> bins(sizes.size(), bin);
+
+    return shelf_check_plan(sizes.data(), sizes.size(), bins.data(), bins.size(),
+                            sizes.data(), sizes.size(), 60, 1);
+}
+
+std::string in_words(uint32_t (*number)(uint64_t), uint64_t result)
+{
+    return shelf_refusal_name(number(result));
+}
+
+} // namespace
+
+// The line of the first check that fails, or 0.
+int check_header()
+{
+    std::vector<uint16_t> answers(SHELF_MAX_COMMANDS, 7);
+    std::vector<uint32_t> free_units(SHELF_MAX_COMMANDS, 7);
+    uint64_t result = shelve(answers, free_units);
+
+    CHECK(!shelf_is_refused(result));
+    CHECK(shelf_items(result) == 1 && shelf_opened(result) == 1);
+    CHECK(!shelf_answer_is_refused(answers[0]));
+    CHECK(answers[0] == 1 && free_units[0] == 25);
+    CHECK(shelf_answer_refusal(answers[1]) == SHELF_REFUSAL_STOCK_SPENT);
+    CHECK(free_units[1] == 0);
+    CHECK(answers[2] == 1 && free_units[2] == 0);
+    CHECK(answers[3] == 7 && free_units[3] == 7);
+
+    free_units.resize(2);
+    result = shelve(answers, free_units);
+    CHECK(shelf_refusal(result) == SHELF_REFUSAL_TOO_FEW_WORDS);
+    CHECK(shelf_place(result) == stream.size());
+    CHECK(in_words(shelf_refusal, result) ==
+          "fewer words in a row than commands after the opening");
+
+    CHECK(check_plan({30, 30}, 1) == 0);
+    result = check_plan({30, 30, 1}, 1);
+    CHECK(shelf_refusal(result) == SHELF_REFUSAL_OVERFULL);
+    CHECK(shelf_place(result) == 3);
+    CHECK(shelf_refusal(check_plan({30}, 2)) == SHELF_REFUSAL_ENTRY_BIN);
+
+    std::vector<uint8_t> sheet(SHELF_SHEET_BYTES);
+    CHECK(shelf_sheet(stream.data(), stream.size(), sheet.data()) == 2 * 41);
+    return 0;
+}
