@@ -3,13 +3,16 @@
 
 use crate::compare::{by_library, by_paper, plan_by_library, verdict, Outcome};
 use crate::families::{self, Family};
+use crate::figures;
+use crate::free_cases;
 use crate::paper::{size_class, SizeClass, Totals};
 use crate::plans::PlanTrial;
+use crate::rows::{self, Lent};
 use crate::sheet_cases;
 use crate::streams::StreamTrial;
 use crate::wire::Command::{self, Count, Shelve};
-use crate::wire::{opening, refuse, refused_word as r, Opening, Refusal, Stream};
-use crate::written::difference;
+use crate::wire::{opening, refuse, refused_word as r, Opening, Refusal, Stream, MOST_COMMANDS};
+use crate::written;
 
 /// The opening of the streams that are refused for another fault.
 const OPEN: Opening = opening(60, 4, 6);
@@ -29,29 +32,57 @@ impl Cases {
         }
     }
 
-    /// What a stream comes to on one side, to the last word of the row and
+    /// What a stream comes to on one side, to the last word of each row and
     /// around it, and to the last byte of the sheet.
-    fn outcome(&mut self, name: &str, side: &str, outcome: Outcome, expected: &Outcome) {
-        self.check(name, outcome == *expected, || {
-            let sheet = difference(&expected.sheet, &outcome.sheet);
-            format!("{side}: {outcome}; sheet, expected against this: {sheet}")
+    fn outcome(&mut self, name: &str, side: &str, outcome: &Outcome, expected: &Outcome) {
+        self.check(name, outcome == expected, || {
+            let rows = rows::difference(&expected.rows, &outcome.rows);
+            let sheet = written::difference(&expected.sheet, &outcome.sheet);
+            format!("{side}: {outcome}; expected against this: {rows}; sheet: {sheet}")
         });
     }
 
-    fn both(&mut self, name: &str, trial: &StreamTrial, expected: &Outcome) {
-        self.outcome(name, "paper", by_paper(trial), expected);
-        self.outcome(name, "library", by_library(trial), expected);
+    /// What a stream comes to by the library, whose free units are held against
+    /// its own answers and sheet besides.
+    fn library(&mut self, name: &str, trial: &StreamTrial, expected: &Outcome) {
+        let library = by_library(trial);
+        self.outcome(name, "library", &library, expected);
+        let fault = figures::fault(trial, &library);
+        self.check(name, fault.is_none(), || {
+            format!("library: {}", fault.unwrap_or_default())
+        });
     }
 
-    /// A stream that is accepted with these answer words and totals, the row
-    /// just long enough or longer.
-    fn accepted(&mut self, name: &str, stream: &[u8], words: &[u16], totals: (usize, usize)) {
-        let (items, opened) = totals;
-        for spare in [0, 3] {
-            let trial = case(stream.to_vec(), words.len() + spare);
-            let expected = Outcome::of(&trial, Ok(Totals { items, opened }), words);
+    pub fn both(&mut self, name: &str, trial: &StreamTrial, expected: &Outcome) {
+        self.outcome(name, "paper", &by_paper(trial), expected);
+        self.library(name, trial, expected);
+    }
+
+    /// A stream that is accepted with these words in the rows and these totals,
+    /// each row just long enough or longer.
+    pub fn answered(
+        &mut self,
+        name: &str,
+        stream: &[u8],
+        (words, free): (&[u16], &[u32]),
+        (items, opened): (usize, usize),
+    ) {
+        for (more, more_free) in [(0, 0), (3, 0), (0, 3), (2, 5)] {
+            let lent = Lent {
+                answers: words.len() + more,
+                free: free.len() + more_free,
+            };
+            let trial = case(stream.to_vec(), lent);
+            let expected = Outcome::accepted(&trial, Totals { items, opened }, words, free);
             self.both(name, &trial, &expected);
         }
+    }
+
+    /// The same by the answer words: the free units follow by subtraction.
+    fn accepted(&mut self, name: &str, stream: &[u8], words: &[u16], totals: (usize, usize)) {
+        let read = Stream::read(stream).expect("a stream without a fault");
+        let free = figures::by_subtraction(&read, words).expect("no bin is overfull");
+        self.answered(name, stream, (words, &free), totals);
     }
 
     /// A list that is shelved without a refusal.
@@ -61,12 +92,15 @@ impl Cases {
         self.accepted(name, &stream.bytes(), bins, (sizes.len(), opened.into()));
     }
 
-    /// A stream that is refused as a whole, at the end of `before`; the row is
-    /// untouched.
+    /// A stream that is refused as a whole, at the end of `before`, with so many
+    /// words lent in either row or in both; the rows are untouched.
     fn refused(&mut self, name: &str, number: u32, before: &[u8], fault: &[u8], lent: usize) {
-        let trial = case([before, fault].concat(), lent);
-        let expected = Outcome::of(&trial, refuse(number, before.len()), &[]);
-        self.both(name, &trial, &expected);
+        let at = before.len();
+        for (answers, free) in [(lent, lent), (lent, MOST_COMMANDS), (MOST_COMMANDS, lent)] {
+            let trial = case([before, fault].concat(), Lent { answers, free });
+            let expected = Outcome::refused(&trial, Refusal { number, at });
+            self.both(name, &trial, &expected);
+        }
     }
 
     fn plan(&mut self, name: &str, trial: &PlanTrial, expected: Result<(), Refusal>) {
@@ -82,7 +116,7 @@ impl Cases {
     }
 }
 
-pub fn case(stream: Vec<u8>, lent: usize) -> StreamTrial {
+pub fn case(stream: Vec<u8>, lent: Lent) -> StreamTrial {
     StreamTrial {
         kind: "case",
         stream,
@@ -94,6 +128,14 @@ pub fn case(stream: Vec<u8>, lent: usize) -> StreamTrial {
 pub fn sent(opening: Opening, commands: &[Command]) -> Vec<u8> {
     let commands = commands.to_vec();
     Stream { opening, commands }.bytes()
+}
+
+/// The sample of `shelve`.
+pub fn sample() -> Vec<u8> {
+    let mut commands = vec![Shelve(35)];
+    commands.extend([Shelve(22); 6]);
+    commands.extend([Shelve(20), Count, Shelve(22)]);
+    sent(opening(60, 4, 6), &commands)
 }
 
 fn plan(entries: &[(u32, u32)], items: &[u32], capacity: u32, k: u32) -> PlanTrial {
@@ -127,6 +169,7 @@ pub fn run() -> Cases {
     plan_limits(&mut cases);
     plan_entries(&mut cases);
     worst_lists(&mut cases);
+    free_cases::run(&mut cases);
     sheet_cases::run(&mut cases);
     cases
 }
@@ -178,13 +221,13 @@ fn worked_shelves(cases: &mut Cases) {
     cases.plan("30 and 31 in one cartridge ●", &overfull, refuse(15, 2));
     cases.plan("no masters, k 0 ●", &own_plan(&[], 60, 0), Ok(()));
 
-    let mut sample = vec![Shelve(35)];
-    sample.extend([Shelve(22); 6]);
-    sample.extend([Shelve(20), Count, Shelve(22)]);
-    cases.accepted(
+    cases.answered(
         "the sample of `shelve`",
-        &sent(opening(60, 4, 6), &sample),
-        &[1, 2, 2, 3, 3, 4, 1, r(10), 4, 4],
+        &sample(),
+        (
+            &[1, 2, 2, 3, 3, 4, 1, r(10), 4, 4],
+            &[25, 38, 16, 38, 16, 38, 3, 0, 0, 16],
+        ),
         (8, 4),
     );
 }
@@ -464,7 +507,7 @@ fn family(cases: &mut Cases, name: &str, m: u8, family: Family) {
         opened,
     } = family;
     let stream = Stream::of_sizes(opening(capacity, 512, m), &sizes);
-    let trial = case(stream.bytes(), sizes.len());
+    let trial = case(stream.bytes(), Lent::both(sizes.len()));
     let paper = by_paper(&trial);
     let totals = Totals {
         items: sizes.len(),
@@ -473,7 +516,7 @@ fn family(cases: &mut Cases, name: &str, m: u8, family: Family) {
     cases.check(name, paper.totals() == Some(totals), || {
         format!("paper: {paper}")
     });
-    cases.outcome(name, "library", by_library(&trial), &paper);
+    cases.library(name, &trial, &paper);
     let entries: Vec<(u32, u32)> = sizes.into_iter().zip(bins).collect();
     cases.plan(name, &own_plan(&entries, capacity, k), Ok(()));
     cases.check(name, 3 * opened <= 5 * k + 15, || {

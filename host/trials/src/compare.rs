@@ -6,14 +6,11 @@ use std::sync::atomic::{AtomicBool, Ordering};
 
 use crate::paper::{self, Totals};
 use crate::plans::PlanTrial;
-use crate::rng::Rng;
+use crate::rows::Rows;
 use crate::sheet;
 use crate::streams::StreamTrial;
-use crate::wire::{self, Refusal};
+use crate::wire::Refusal;
 use crate::written::Written;
-
-/// Words before and after the lent row that no call may touch.
-const GUARD: usize = 8;
 
 /// Set while the library is called: its wrapper panics on a result outside the
 /// interface, and that is a difference like any other, not to be announced for
@@ -37,23 +34,31 @@ fn guarded<T>(call: impl FnOnce() -> T) -> Option<T> {
     result.ok()
 }
 
-/// What a stream came to: the result, every word of the row with the words
-/// around it, and the sheet.
+/// What a stream came to: the result, every word of both rows with the words
+/// around them, and the sheet.
 #[derive(Clone, PartialEq, Eq)]
 pub struct Outcome {
     result: Option<Result<Totals, Refusal>>,
-    words: Vec<u16>,
+    pub rows: Rows,
     pub sheet: Written,
 }
 
 impl Outcome {
-    /// What a stream comes to with this result, these words of the row written
-    /// and all others untouched, and the paper's sheet.
-    pub fn of(trial: &StreamTrial, result: Result<Totals, Refusal>, written: &[u16]) -> Self {
-        let answer = |row: &mut [u16]| {
-            row[..written.len()].copy_from_slice(written);
-            Some(result)
+    /// What an accepted stream comes to with these totals, these words written
+    /// at the front of each row and all others untouched, and the paper's sheet.
+    pub fn accepted(trial: &StreamTrial, totals: Totals, answers: &[u16], free: &[u32]) -> Self {
+        let answer = |words: &mut [u16], units: &mut [u32]| {
+            words[..answers.len()].copy_from_slice(answers);
+            units[..free.len()].copy_from_slice(free);
+            Some(Ok(totals))
         };
+        outcome(trial, answer, by_paper(trial).sheet)
+    }
+
+    /// What a refused stream comes to: both rows untouched, and the paper's
+    /// sheet.
+    pub fn refused(trial: &StreamTrial, refusal: Refusal) -> Self {
+        let answer = |_: &mut [u16], _: &mut [u32]| Some(Err(refusal));
         outcome(trial, answer, by_paper(trial).sheet)
     }
 
@@ -61,25 +66,19 @@ impl Outcome {
     pub fn totals(&self) -> Option<Totals> {
         self.result?.ok()
     }
-
-    /// The lent row.
-    pub fn row(&self) -> &[u16] {
-        &self.words[GUARD..self.words.len() - GUARD]
-    }
 }
 
 fn outcome(
     trial: &StreamTrial,
-    call: impl FnOnce(&mut [u16]) -> Option<Result<Totals, Refusal>>,
+    call: impl FnOnce(&mut [u16], &mut [u32]) -> Option<Result<Totals, Refusal>>,
     sheet: Written,
 ) -> Outcome {
-    let mut fill = Rng::of_trial(trial.fill, 0);
-    let mut words: Vec<u16> = Vec::new();
-    words.resize_with(GUARD + trial.lent + GUARD, || fill.word() as u16);
-    let result = call(&mut words[GUARD..GUARD + trial.lent]);
+    let mut rows = Rows::filled(trial.lent, trial.fill);
+    let (answers, free) = rows.lend();
+    let result = call(answers, free);
     Outcome {
         result,
-        words,
+        rows,
         sheet,
     }
 }
@@ -88,7 +87,8 @@ pub fn by_paper(trial: &StreamTrial) -> Outcome {
     let stream = &trial.stream;
     let shelved = paper::shelve(stream);
     let sheet = Written::text(trial.fill, &sheet::sheet(stream, &shelved));
-    let answer = |row: &mut [u16]| Some(paper::answer(stream, &shelved, row));
+    let answer =
+        |words: &mut [u16], free: &mut [u32]| Some(paper::answer(stream, &shelved, words, free));
     outcome(trial, answer, sheet)
 }
 
@@ -96,8 +96,8 @@ pub fn by_library(trial: &StreamTrial) -> Outcome {
     let sheet = Written::by(trial.fill, |lent| {
         guarded(|| shelf::write_sheet(&trial.stream, lent))
     });
-    let answer = |row: &mut [u16]| {
-        let result = guarded(|| shelf::shelve(&trial.stream, row))?;
+    let answer = |words: &mut [u16], free: &mut [u32]| {
+        let result = guarded(|| shelf::shelve(&trial.stream, words, free))?;
         Some(match result {
             Ok(totals) => Ok(Totals {
                 items: totals.items.into(),
@@ -134,31 +134,10 @@ pub fn plan_by_library(trial: &PlanTrial) -> Option<Result<(), Refusal>> {
     Some(rows.map_err(seen))
 }
 
-/// The first word on which the sides differ, in the row or around it.
-pub fn differing_word(paper: &Outcome, library: &Outcome) -> String {
-    let pairs = paper.words.iter().zip(&library.words);
-    let mut numbered = (1 - GUARD as i64..).zip(pairs);
-    match numbered.find(|(_, (paper, library))| paper != library) {
-        None => "no word differs".to_string(),
-        Some((n, (&paper, &library))) => format!(
-            "word {n} differs: {} on paper, {} from the library",
-            word(paper),
-            word(library),
-        ),
-    }
-}
-
 pub fn verdict(result: Result<(), Refusal>) -> String {
     match result {
         Ok(()) => "passed".to_string(),
         Err(Refusal { number, at }) => format!("refused {number} at place {at}"),
-    }
-}
-
-fn word(word: u16) -> String {
-    match wire::answer(word) {
-        Ok(figure) => figure.to_string(),
-        Err(number) => format!("{}+{number}", wire::refused_word(0)),
     }
 }
 
@@ -169,12 +148,10 @@ impl fmt::Display for Outcome {
             Some(Ok(Totals { items, opened })) => write!(f, "accepted {items}, opened {opened}")?,
             Some(Err(Refusal { number, at })) => write!(f, "refused {number} at offset {at}")?,
         }
-        // The answers; an untouched row says nothing.
-        if self.totals().is_some() {
-            let words: Vec<String> = self.row().iter().take(40).map(|&w| word(w)).collect();
-            let more = if self.row().len() > 40 { " ..." } else { "" };
-            write!(f, "; row {}{more}", words.join(" "))?;
+        // Untouched rows say nothing.
+        match self.totals() {
+            Some(_) => write!(f, "; {}", self.rows),
+            None => Ok(()),
         }
-        Ok(())
     }
 }

@@ -1,5 +1,6 @@
 //! Compares the library with [`paper`] and [`sheet`], a simple version written
-//! from the specification alone, over random streams and plans.
+//! from the specification alone, over random streams and plans; and holds its
+//! answers against themselves: the figures of [`figures`], and the fewest bins.
 //!
 //! `trials [--streams N] [--plans N] [--seed S]`. The first difference is made
 //! small and printed with both answers, and the exit status is 1.
@@ -8,10 +9,13 @@ mod cases;
 mod compare;
 mod families;
 mod fewest;
+mod figures;
+mod free_cases;
 mod lists;
 mod paper;
 mod plans;
 mod rng;
+mod rows;
 mod sheet;
 mod sheet_cases;
 mod smaller;
@@ -145,6 +149,10 @@ fn try_stream(trial: StreamTrial, tally: &mut Tally) -> Result<(), String> {
         return Err(format!("{kind}\n{}", show_stream(trial, differs)));
     }
     tally.accepted += u64::from(outcome.totals().is_some());
+    if let Some(fault) = figures::fault(&trial, &outcome) {
+        let faulty = |trial: &StreamTrial| figures::fault(trial, &by_library(trial)).is_some();
+        return Err(format!("{kind}: {fault}\n{}", show_stream(trial, faulty)));
+    }
     match worst_excess(&trial, &outcome, tally) {
         Some(worst) if worst > 15 => {
             let breaks = |trial: &StreamTrial| {
@@ -166,7 +174,7 @@ fn worst_excess(trial: &StreamTrial, outcome: &Outcome, tally: &mut Tally) -> Op
     let totals = outcome.totals()?;
     let stream = Stream::read(&trial.stream).ok()?;
     let capacity = stream.opening.capacity;
-    let placed = stream.placed(outcome.row());
+    let placed = stream.placed(outcome.rows.answers());
     let excess = |opened: usize, k: usize| 3 * opened as i64 - 5 * k as i64;
     if totals.items > SHORT {
         let items: Vec<u32> = placed.iter().map(|&(size, _)| size).collect();

@@ -104,48 +104,56 @@ impl Packing {
         Ok(place + 1)
     }
 
-    /// Does what a command asks; the answer word.
-    fn answer(&mut self, command: Command) -> u16 {
+    /// The units that are left free on a bin.
+    pub fn free_units(&self, bin: &Bin) -> u64 {
+        u64::from(self.opening.capacity) - bin.load()
+    }
+
+    /// Does what a command asks; its word in each row.
+    fn answer(&mut self, command: Command) -> (u16, u32) {
         match command {
-            Command::Count => self.bins.len() as u16,
+            Command::Count => (self.bins.len() as u16, 0),
             Command::Shelve(size) => match self.place(size.into()) {
-                Ok(bin) => bin as u16,
-                Err(number) => refused_word(number),
+                Ok(bin) => (bin as u16, self.free_units(&self.bins[bin - 1]) as u32),
+                Err(number) => (refused_word(number), 0),
             },
         }
     }
 }
 
-/// What is made of a stream without a fault: the answer words, and the packing
-/// that it leaves.
+/// What is made of a stream without a fault: each command's word in each row,
+/// and the packing that it leaves.
 pub struct Shelved {
-    words: Vec<u16>,
+    answers: Vec<(u16, u32)>,
     pub packing: Packing,
 }
 
-/// Shelves a stream, whatever row is lent with it: any refusal but 7.
+/// Shelves a stream, whatever rows are lent with it: any refusal but 7.
 pub fn shelve(stream: &[u8]) -> Result<Shelved, Refusal> {
     let Stream { opening, commands } = Stream::read(stream)?;
     let mut packing = Packing::new(opening);
-    let words = commands.into_iter().map(|command| packing.answer(command));
+    let answers = commands.into_iter().map(|command| packing.answer(command));
     Ok(Shelved {
-        words: words.collect(),
+        answers: answers.collect(),
         packing,
     })
 }
 
-/// Gives the answers of a stream to the row that is lent with it. Refusal 7
-/// comes last.
+/// Gives the answers of a stream to the two rows that are lent with it. Refusal
+/// 7 comes last.
 pub fn answer(
     stream: &[u8],
     shelved: &Result<Shelved, Refusal>,
-    answers: &mut [u16],
+    words: &mut [u16],
+    free: &mut [u32],
 ) -> Result<Totals, Refusal> {
-    let Shelved { words, packing } = shelved.as_ref().map_err(|refusal| *refusal)?;
-    if answers.len() < words.len() {
+    let Shelved { answers, packing } = shelved.as_ref().map_err(|refusal| *refusal)?;
+    if words.len() < answers.len() || free.len() < answers.len() {
         return refuse(7, stream.len());
     }
-    answers[..words.len()].copy_from_slice(words);
+    for (place, &answer) in answers.iter().enumerate() {
+        (words[place], free[place]) = answer;
+    }
     Ok(Totals {
         items: packing.accepted,
         opened: packing.bins.len(),

@@ -74,7 +74,9 @@ fn own_answers(rng: &mut Rng) -> PlanTrial {
     let sent = random_items(rng, capacity);
     let stream = Stream::of_sizes(opening(capacity, stock, random_m(rng)), &sent);
     let mut words = vec![0; sent.len()];
-    let totals = shelf::shelve(&stream.bytes(), &mut words).expect("a well-formed stream");
+    let mut free = vec![0; sent.len()];
+    let shelved = shelf::shelve(&stream.bytes(), &mut words, &mut free);
+    let totals = shelved.expect("a well-formed stream");
     let (items, bins) = stream.placed(&words).into_iter().unzip();
     passing("own answers", items, bins, capacity, totals.opened.into())
 }

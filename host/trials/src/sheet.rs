@@ -25,21 +25,20 @@ pub fn sheet(stream: &[u8], shelved: &Result<Shelved, Refusal>) -> String {
 }
 
 fn pages(packing: &Packing) -> String {
-    let capacity = packing.opening.capacity.into();
     let numbered: Vec<(usize, &Bin)> = (1..).zip(&packing.bins).collect();
     let mut sheet = String::new();
     for (page, bins) in (1..).zip(numbered.chunks(LINES_A_PAGE)) {
         sheet += &line(&format!("PAGE {page:>3}"));
         for (number, bin) in bins {
-            sheet += &line(&cartridge(*number, bin, capacity));
+            sheet += &line(&cartridge(*number, bin, packing));
         }
     }
     sheet
 }
 
-fn cartridge(number: usize, bin: &Bin, capacity: u64) -> String {
+fn cartridge(number: usize, bin: &Bin, packing: &Packing) -> String {
     let (class, load, held) = (bin.class, bin.load(), bin.items.len());
-    let free = capacity - load;
+    let free = packing.free_units(bin);
     format!("{number:>4} {class} {load:>8} {free:>8} {held:>4}")
 }
 

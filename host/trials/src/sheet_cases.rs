@@ -1,7 +1,8 @@
 //! The vault sheet's cases by name, their texts written out from the request.
 
-use crate::cases::{case, sent, Cases};
+use crate::cases::{case, sample, sent, Cases};
 use crate::compare::{by_library, by_paper};
+use crate::rows::Lent;
 use crate::wire::Command::{Count, Shelve};
 use crate::wire::{opening, Opening, Stream, MOST_CAPACITY, MOST_PRINTED};
 use crate::written::{difference, Written};
@@ -12,7 +13,7 @@ impl Cases {
     /// A stream whose sheet is this text on both sides, to the last lent byte
     /// and around them.
     fn sheet(&mut self, name: &str, stream: Vec<u8>, text: &str) {
-        let trial = case(stream, 0);
+        let trial = case(stream, Lent::both(0));
         let expected = Written::text(trial.fill, text);
         for (side, outcome) in [("paper", by_paper(&trial)), ("library", by_library(&trial))] {
             self.check(name, outcome.sheet == expected, || {
@@ -31,9 +32,6 @@ pub fn run(cases: &mut Cases) {
 }
 
 fn shelves(cases: &mut Cases) {
-    let mut sample = vec![Shelve(35)];
-    sample.extend([Shelve(22); 6]);
-    sample.extend([Shelve(20), Count, Shelve(22)]);
     let lines = [
         "PAGE   1                                \n",
         "   1 1       57        3    2           \n",
@@ -41,8 +39,7 @@ fn shelves(cases: &mut Cases) {
         "   3 3       44       16    2           \n",
         "   4 3       44       16    2           \n",
     ];
-    let stream = sent(opening(60, 4, 6), &sample);
-    cases.sheet("the sheet of the sample", stream, &lines.concat());
+    cases.sheet("the sheet of the sample", sample(), &lines.concat());
 
     // Six of 22: the sixth lies alone in class 1.
     let stream = Stream::of_sizes(OPEN, &[20, 30, 22, 22, 22, 22, 22, 22, 38, 31]);

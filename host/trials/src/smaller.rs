@@ -2,11 +2,12 @@
 
 use std::time::{Duration, Instant};
 
-use crate::compare::{by_library, by_paper, differing_word, plan_by_library, verdict};
+use crate::compare::{by_library, by_paper, plan_by_library, verdict};
 use crate::plans::PlanTrial;
+use crate::rows::{self, Lent};
 use crate::streams::StreamTrial;
 use crate::wire::{self, opening, Command, Opening, Part, LEAST_M};
-use crate::written::difference;
+use crate::written;
 
 /// Follows smaller trials that still fail, until none does or time is up.
 fn shrink<T>(
@@ -79,8 +80,15 @@ fn parts(trial: &StreamTrial) -> Vec<Part<'_>> {
     wire::parts(&trial.stream).map(|(_, part)| part).collect()
 }
 
+/// The rows with one of them shorter.
+fn shorter_rows(Lent { answers, free }: Lent) -> impl Iterator<Item = Lent> {
+    let lower = |words: usize| lower(words as u32).map(|words| words as usize);
+    let answers_lower = lower(answers).map(move |answers| Lent { answers, free });
+    answers_lower.chain(lower(free).map(move |free| Lent { answers, free }))
+}
+
 fn smaller_streams(trial: &StreamTrial) -> Box<dyn Iterator<Item = StreamTrial> + '_> {
-    let with = |parts: &[Part], lent: usize| StreamTrial {
+    let with = |parts: &[Part], lent: Lent| StreamTrial {
         stream: parts.iter().flat_map(Part::bytes).collect(),
         lent,
         ..trial.clone()
@@ -89,12 +97,16 @@ fn smaller_streams(trial: &StreamTrial) -> Box<dyn Iterator<Item = StreamTrial> 
     let dropped = blocks(len).flat_map(move |block| {
         let mut kept = parts(trial);
         let gone = kept.drain(block).len();
-        // A shorter row keeps its distance from the number of commands.
-        [trial.lent.saturating_sub(gone), trial.lent].map(|lent| with(&kept, lent))
+        // Shorter rows keep their distance from the number of commands.
+        let shorter = Lent {
+            answers: trial.lent.answers.saturating_sub(gone),
+            free: trial.lent.free.saturating_sub(gone),
+        };
+        [shorter, trial.lent].map(|lent| with(&kept, lent))
     });
     let scales = [100, 10, 2].into_iter();
     let scaled = scales.filter_map(move |by| Some(with(&scaled(&parts(trial), by)?, trial.lent)));
-    let shorter_rows = lower(trial.lent as u32).map(move |n| with(&parts(trial), n as usize));
+    let shorter_rows = shorter_rows(trial.lent).map(move |lent| with(&parts(trial), lent));
     let lower_numbers = (0..len).flat_map(move |i| {
         let tries = lowered(parts(trial)[i]).into_iter();
         tries.map(move |part| {
@@ -156,13 +168,15 @@ pub fn show_stream(trial: StreamTrial, fails: impl Fn(&StreamTrial) -> bool) -> 
         .map(|part| hex(&part.bytes()))
         .collect();
     format!(
-        "stream, {} bytes, {} words lent:\n  {}\npaper:   {paper}\nlibrary: {library}\n{}\n\
-         sheet, paper against library: {}",
+        "stream, {} bytes, lent {} words of answers and {} of free units:\n  {}\n\
+         paper:   {paper}\nlibrary: {library}\n\
+         paper against library: {}; sheet: {}",
         trial.stream.len(),
-        trial.lent,
+        trial.lent.answers,
+        trial.lent.free,
         hex.join(" "),
-        differing_word(&paper, &library),
-        difference(&paper.sheet, &library.sheet),
+        rows::difference(&paper.rows, &library.rows),
+        written::difference(&paper.sheet, &library.sheet),
     )
 }
 

@@ -2,18 +2,19 @@
 
 use crate::lists::{b2_run, family, list, long, random_opening, short_list};
 use crate::rng::Rng;
+use crate::rows::Lent;
 use crate::wire::{
     Command, LEAST_M, MOST_CAPACITY, MOST_COMMANDS, MOST_M, MOST_PRINTED, MOST_STOCK,
 };
 
-/// A stream and the row lent with it.
+/// A stream and the rows lent with it.
 #[derive(Clone)]
 pub struct StreamTrial {
     pub kind: &'static str,
     pub stream: Vec<u8>,
-    /// The length of the lent row.
-    pub lent: usize,
-    /// What the row and the words around it hold before the call.
+    /// The lengths of the lent rows.
+    pub lent: Lent,
+    /// What the rows and the words around them hold before the call.
     pub fill: u64,
 }
 
@@ -31,7 +32,21 @@ pub fn random(rng: &mut Rng) -> StreamTrial {
         _ => ("damaged", damaged(rng)),
     };
     let after = pieces.len().saturating_sub(1);
-    let lent = match rng.between(0, 19) {
+    let mut lent = Lent::both(random_length(rng, after));
+    if rng.chance(50) {
+        lent.free = random_length(rng, after);
+    }
+    StreamTrial {
+        kind,
+        stream: pieces.concat(),
+        lent,
+        fill: rng.word(),
+    }
+}
+
+/// The length of a row that is lent for so many commands.
+fn random_length(rng: &mut Rng, after: usize) -> usize {
+    match rng.between(0, 19) {
         0..=7 => after,
         8..=10 => after + rng.place(9),
         11..=12 => after.saturating_sub(1),
@@ -40,12 +55,6 @@ pub fn random(rng: &mut Rng) -> StreamTrial {
         15..=16 => MOST_COMMANDS,
         17 => MOST_COMMANDS - 1,
         _ => MOST_COMMANDS + 1 + rng.place(100),
-    };
-    StreamTrial {
-        kind,
-        stream: pieces.concat(),
-        lent,
-        fill: rng.word(),
     }
 }
 

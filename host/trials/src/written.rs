@@ -34,6 +34,12 @@ impl Written {
         })
     }
 
+    /// The text that the call says it has written, if it is one.
+    pub fn as_text(&self) -> Option<&str> {
+        let lent = &self.bytes[GUARD..GUARD + MOST_BYTES];
+        std::str::from_utf8(lent.get(..self.length?)?).ok()
+    }
+
     /// The bytes from this place to the end of its line.
     fn line_from(&self, place: usize) -> impl std::fmt::Display + '_ {
         let mut lines = self.bytes[place..].split(|&byte| byte == b'\n');
