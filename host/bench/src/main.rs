@@ -11,7 +11,8 @@
 //!   shelving, to be taken off.
 //! - `bench --mixes` lists the mixes.
 //!
-//! All contestants write into the same row, which is not cleared in between.
+//! All contestants write into the same two rows, which are not cleared in
+//! between.
 
 mod mixes;
 mod scan;
@@ -32,7 +33,7 @@ const TURN: usize = 8;
 /// How many streams of a mix `--fresh` goes through.
 const FRESH: u64 = 64;
 
-type Engine = fn(&[u8], &mut [u16]) -> u64;
+type Engine = fn(&[u8], &mut [u16], &mut [u32]) -> u64;
 
 const CONTESTANTS: [(&str, Engine); 3] = [
     ("library", library),
@@ -41,8 +42,8 @@ const CONTESTANTS: [(&str, Engine); 3] = [
 ];
 
 /// The library through its wrapper, as a Rust program would call it.
-fn library(stream: &[u8], answers: &mut [u16]) -> u64 {
-    match shelf::shelve(stream, answers) {
+fn library(stream: &[u8], answers: &mut [u16], free: &mut [u32]) -> u64 {
+    match shelf::shelve(stream, answers, free) {
         Ok(totals) => u64::from(totals.items) << 16 | u64::from(totals.opened),
         Err(refusal) => panic!("{refusal}"),
     }
@@ -82,20 +83,26 @@ fn once(mix: &str, contestant: &str) -> bool {
         return false;
     };
     let stream = mix.stream(1);
-    let mut row = stream.answer_row();
+    let mut rows = stream.rows();
     let engine = CONTESTANTS.iter().find(|(name, _)| *name == contestant);
     match engine {
-        Some((_, engine)) => run(*engine, stream.bytes(), &mut row, REPEATS),
-        None => contestant == "none" && black_box(row.len()) > 0,
+        Some((_, engine)) => {
+            for _ in 0..REPEATS {
+                run(*engine, stream.bytes(), &mut rows);
+            }
+            true
+        }
+        None => contestant == "none" && !black_box(rows).0.is_empty(),
     }
 }
 
-/// Shelves the stream so often.
-fn run(engine: Engine, stream: &[u8], row: &mut [u16], times: u32) -> bool {
-    for _ in 0..times {
-        black_box(engine(black_box(stream), black_box(row)));
-    }
-    true
+/// Shelves the stream.
+fn run(engine: Engine, stream: &[u8], (answers, free): &mut (Vec<u16>, Vec<u32>)) {
+    black_box(engine(
+        black_box(stream),
+        black_box(answers),
+        black_box(free),
+    ));
 }
 
 /// Compares the contestants on so many streams of each mix.
@@ -124,14 +131,14 @@ fn compare(streams: u64) {
 
 /// The time that a stream took each contestant in each round.
 fn take_turns(streams: &[StreamBuilder]) -> [Vec<f64>; 3] {
-    let mut row = streams[0].answer_row();
+    let mut rows = streams[0].rows();
     let mut times: [Vec<f64>; 3] = Default::default();
     for round in 0..=ROUNDS {
         for (times, (_, engine)) in times.iter_mut().zip(CONTESTANTS) {
             let turn = streams.iter().cycle().skip(round * TURN % streams.len());
             let start = Instant::now();
             for stream in turn.take(TURN) {
-                run(engine, stream.bytes(), &mut row, 1);
+                run(engine, stream.bytes(), &mut rows);
             }
             let time = start.elapsed().as_nanos() as f64 / TURN as f64;
             // The first round only warms up.
@@ -157,8 +164,9 @@ fn check_agreement(mix: &Mix, stream: &StreamBuilder) {
     let answers: Vec<_> = CONTESTANTS
         .iter()
         .map(|(_, engine)| {
-            let mut row = stream.answer_row();
-            (engine(stream.bytes(), &mut row), row)
+            let (mut answers, mut free) = stream.rows();
+            let totals = engine(stream.bytes(), &mut answers, &mut free);
+            (totals, answers, free)
         })
         .collect();
     assert!(

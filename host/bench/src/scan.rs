@@ -1,5 +1,5 @@
 //! The same answers by trying the bins one after another. Streams must be well
-//! formed and the row long enough: this one is here to be timed, not trusted.
+//! formed and the rows long enough: this one is here to be timed, not trusted.
 
 struct Bin {
     class: u8,
@@ -7,7 +7,7 @@ struct Bin {
     free: u32,
 }
 
-pub fn shelve(stream: &[u8], answers: &mut [u16]) -> u64 {
+pub fn shelve(stream: &[u8], answers: &mut [u16], free: &mut [u32]) -> u64 {
     let capacity = u32::from_be_bytes([stream[1], stream[2], stream[3], stream[4]]);
     let stock = usize::from(u16::from_be_bytes([stream[5], stream[6]]));
     let m = u32::from(stream[7]);
@@ -16,7 +16,7 @@ pub fn shelve(stream: &[u8], answers: &mut [u16]) -> u64 {
     let mut b2_accepted = 0;
 
     let mut rest = &stream[8..];
-    for word in answers {
+    for (word, left) in answers.iter_mut().zip(free) {
         let size = match *rest {
             [0x02, a, b, c, d, ref after @ ..] => {
                 rest = after;
@@ -24,13 +24,14 @@ pub fn shelve(stream: &[u8], answers: &mut [u16]) -> u64 {
             }
             [_, ref after @ ..] => {
                 rest = after;
-                *word = bins.len() as u16;
+                (*word, *left) = (bins.len() as u16, 0);
                 continue;
             }
             [] => break,
         };
         if size == 0 || size > capacity {
-            *word = if size == 0 { 0x8000 + 8 } else { 0x8000 + 9 };
+            let number = if size == 0 { 8 } else { 9 };
+            (*word, *left) = (0x8000 + number, 0);
             continue;
         }
         let is_a = 2 * size > capacity;
@@ -50,7 +51,7 @@ pub fn shelve(stream: &[u8], answers: &mut [u16]) -> u64 {
         let place = match bins.iter().position(fits) {
             Some(place) => place,
             None if bins.len() == stock => {
-                *word = 0x8000 + 10;
+                (*word, *left) = (0x8000 + 10, 0);
                 continue;
             }
             None => {
@@ -66,7 +67,7 @@ pub fn shelve(stream: &[u8], answers: &mut [u16]) -> u64 {
         bins[place].has_a |= is_a;
         b2_accepted += u32::from(is_b2);
         accepted += 1;
-        *word = place as u16 + 1;
+        (*word, *left) = (place as u16 + 1, bins[place].free);
     }
     accepted << 16 | bins.len() as u64
 }

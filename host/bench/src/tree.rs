@@ -112,21 +112,26 @@ fn read(stream: &[u8]) -> Result<(Opening, usize), u64> {
 }
 
 /// The packed result is that of the library's C interface.
-pub fn shelve(stream: &[u8], answers: &mut [u16]) -> u64 {
+pub fn shelve(stream: &[u8], answers: &mut [u16], free: &mut [u32]) -> u64 {
     let mut rows: Rows = [[0; 4]; MAX_LEAVES];
-    let result = shelve_and_enter(stream, answers, &mut rows);
+    let result = shelve_and_enter(stream, answers, free, &mut rows);
     // Not all of the figures are read again, but all are to be written.
     black_box(&rows);
     result
 }
 
 /// Shelves, and enters each item in the rows, which are all 0 before.
-fn shelve_and_enter(stream: &[u8], answers: &mut [u16], rows: &mut Rows) -> u64 {
+fn shelve_and_enter(
+    stream: &[u8],
+    answers: &mut [u16],
+    free_units: &mut [u32],
+    rows: &mut Rows,
+) -> u64 {
     let (opening, commands) = match read(stream) {
         Ok(read) => read,
         Err(refused) => return refused,
     };
-    if answers.len() < commands {
+    if answers.len() < commands || free_units.len() < commands {
         return refused(7, stream.len());
     }
     let Opening { capacity, stock, m } = opening;
@@ -137,7 +142,8 @@ fn shelve_and_enter(stream: &[u8], answers: &mut [u16], rows: &mut Rows) -> u64 
     let mut to_next_m = m; // B2 items up to and with the next m-th
 
     let mut rest = &stream[8..];
-    for word in &mut answers[..commands] {
+    let words = answers[..commands].iter_mut();
+    for (word, left) in words.zip(&mut free_units[..commands]) {
         let size = match *rest {
             [0x02, s0, s1, s2, s3, ref after @ ..] => {
                 rest = after;
@@ -145,17 +151,17 @@ fn shelve_and_enter(stream: &[u8], answers: &mut [u16], rows: &mut Rows) -> u64 
             }
             [_, ref after @ ..] => {
                 rest = after;
-                *word = opened as u16;
+                (*word, *left) = (opened as u16, 0);
                 continue;
             }
             [] => break,
         };
         if size == 0 {
-            *word = 0x8000 + 8;
+            (*word, *left) = (0x8000 + 8, 0);
             continue;
         }
         if size > capacity {
-            *word = 0x8000 + 9;
+            (*word, *left) = (0x8000 + 9, 0);
             continue;
         }
         // Sizes are at most 2^24, so these products stay within 32 bits.
@@ -177,7 +183,7 @@ fn shelve_and_enter(stream: &[u8], answers: &mut [u16], rows: &mut Rows) -> u64 
             opened += 1;
             (leaves + opened - 1, capacity - size)
         } else {
-            *word = 0x8000 + 10;
+            (*word, *left) = (0x8000 + 10, 0);
             continue;
         };
         let place = leaf - leaves;
@@ -202,7 +208,7 @@ fn shelve_and_enter(stream: &[u8], answers: &mut [u16], rows: &mut Rows) -> u64 
             }
         }
         accepted += 1;
-        *word = (place + 1) as u16;
+        (*word, *left) = ((place + 1) as u16, free);
     }
     accepted << 16 | opened as u64
 }
@@ -217,17 +223,17 @@ mod tests {
     fn the_rows_are_those_of_the_sheet() {
         for mix in &MIXES {
             let stream = mix.stream(1);
-            let mut words = stream.answer_row();
+            let (mut words, mut free) = stream.rows();
             let mut rows = [[0; 4]; MAX_LEAVES];
-            shelve_and_enter(stream.bytes(), &mut words, &mut rows);
+            shelve_and_enter(stream.bytes(), &mut words, &mut free, &mut rows);
 
             let capacity = Opening::read(stream.bytes()).unwrap().capacity;
             let mut expected = [[0; 4]; MAX_LEAVES];
             for (expected, row) in expected.iter_mut().zip(shelf::sheet(stream.bytes()).rows()) {
                 *expected = [row.class.into(), row.free, row.held.into(), 0];
             }
-            for answered in shelf::answers(stream.bytes(), &words) {
-                if let (Command::Shelve { size }, Answer::Placed { bin }) = answered {
+            for answered in shelf::answers(stream.bytes(), &words, &free) {
+                if let (Command::Shelve { size }, Answer::Placed { bin, .. }) = answered {
                     expected[usize::from(bin) - 1][3] += u32::from(2 * size > capacity);
                 }
             }
