@@ -99,6 +99,7 @@ fn write_items(f: &mut fmt::Formatter<'_>, bin: &Bin) -> fmt::Result {
 #[cfg(test)]
 mod tests {
     use super::*;
+    use crate::outcome::Shelved;
 
     /// The widest shelf: the most bins, the largest numbers, many sizes.
     #[test]
@@ -107,9 +108,7 @@ mod tests {
         for i in 0..4_096 {
             stream.shelve([9_000_000, 7_000_000, 6_000_000, 40_000 + i][i as usize % 4]);
         }
-        let mut words = stream.answer_row();
-        shelf::shelve(stream.bytes(), &mut words).unwrap();
-        let packing = Packing::of(stream.bytes(), &words);
+        let Shelved { packing, .. } = Shelved::of(stream.bytes()).unwrap();
         assert_eq!(packing.bins.len(), 512);
         for line in Drawing(&packing).to_string().lines() {
             assert!(line.chars().count() <= COLUMNS, "{line}");

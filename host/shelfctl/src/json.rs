@@ -6,10 +6,10 @@ use shelf::{Answer, Command, Opening, Row};
 
 use crate::outcome::{Outcome, Shelved};
 use crate::packing::Packing;
-use crate::source::{Source, MAX_STREAM};
+use crate::source::MAX_STREAM;
 
 /// The object; `reasons` are the sentences about a stream refused.
-pub fn object(source: &Source, outcome: &Outcome, reasons: &[String]) -> String {
+pub fn object(outcome: &Outcome, reasons: &[String]) -> String {
     match outcome {
         Outcome::TooLong => refused(&format!("\"longest\": {MAX_STREAM}"), reasons),
         Outcome::Refused(refusal) => {
@@ -19,7 +19,7 @@ pub fn object(source: &Source, outcome: &Outcome, reasons: &[String]) -> String 
                 reasons,
             )
         }
-        Outcome::Shelved(shelved) => accepted(source, shelved),
+        Outcome::Shelved(shelved) => accepted(shelved),
     }
 }
 
@@ -28,13 +28,10 @@ fn refused(refusal: &str, reasons: &[String]) -> String {
     format!("{{\n\"accepted\": false,\n\"refusal\": {{{refusal}}},\n\"reasons\": {reasons}\n}}\n")
 }
 
-fn accepted(source: &Source, shelved: &Shelved) -> String {
+fn accepted(shelved: &Shelved) -> String {
     let Opening { capacity, stock, m } = shelved.packing.opening;
-    let answers = array(
-        (1..)
-            .zip(shelf::answers(&source.bytes, &shelved.words))
-            .map(|(number, answered)| answer(number, answered)),
-    );
+    let numbered = (1..).zip(&shelved.answers);
+    let answers = array(numbered.map(|(number, &answered)| answer(number, answered)));
     let totals = shelved.totals;
     let (masters, opened) = (totals.items, totals.opened);
     let cartridges = cartridges(&shelved.packing);
@@ -53,7 +50,7 @@ fn answer(number: usize, (command, answer): (Command, Answer)) -> String {
         Command::Count => String::new(),
     };
     let result = match answer {
-        Answer::Placed { bin } => format!("\"cartridge\": {bin}"),
+        Answer::Placed { bin, free } => format!("\"cartridge\": {bin}, \"free\": {free}"),
         Answer::Counted { opened } => format!("\"count\": {opened}"),
         Answer::Refused(why) => {
             let reason = string(&why.to_string());
@@ -108,6 +105,7 @@ fn string(text: &str) -> String {
 #[cfg(test)]
 mod tests {
     use super::*;
+    use crate::source::Source;
 
     #[test]
     fn strings_are_escaped() {
@@ -124,7 +122,7 @@ mod tests {
 "accepted": true,
 "opening": {"capacity": 60, "stock": 1, "m": 6},
 "answers": [
-{"command": 1, "size": 35, "cartridge": 1},
+{"command": 1, "size": 35, "cartridge": 1, "free": 25},
 {"command": 2, "size": 61, "refusal": 9, "reason": "size above the capacity"},
 {"command": 3, "count": 1}
 ],
@@ -134,7 +132,7 @@ mod tests {
 ]
 }
 "#;
-        assert_eq!(object(&source, &outcome, &[]), expected);
+        assert_eq!(object(&outcome, &[]), expected);
     }
 
     #[test]
@@ -145,6 +143,6 @@ mod tests {
                         \"refusal\": {\"number\": 1, \"offset\": 0},\n\
                         \"reasons\": [\n\"because\"\n]\n}\n";
         let reasons = ["because".to_string()];
-        assert_eq!(object(&source, &outcome, &reasons), expected);
+        assert_eq!(object(&outcome, &reasons), expected);
     }
 }

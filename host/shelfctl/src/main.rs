@@ -80,11 +80,11 @@ fn write(
     if shelve.sheet {
         print(shelf::sheet(&source.bytes).text())?;
     } else if shelve.json {
-        print(&json::object(source, outcome, sentences))?;
+        print(&json::object(outcome, sentences))?;
     } else if let (Outcome::Shelved(shelved), Some(Place::Standard)) = (outcome, &shelve.svg) {
         print(&picture(shelved))?;
     } else {
-        let mut output = outcome.lines(source);
+        let mut output = outcome.lines();
         if let Outcome::Shelved(Shelved { packing, .. }) = outcome {
             if shelve.draw {
                 output += &format!("\n{}", draw::Drawing(packing));

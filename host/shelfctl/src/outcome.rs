@@ -1,6 +1,6 @@
 //! What the library makes of a stream, in lines and in words.
 
-use shelf::{Answer, StreamRefusal, Totals, MAX_COMMANDS};
+use shelf::{Answer, Command, StreamRefusal, Totals, MAX_COMMANDS};
 
 use crate::packing::Packing;
 use crate::source::{Source, MAX_STREAM};
@@ -14,7 +14,8 @@ pub enum Outcome {
 }
 
 pub struct Shelved {
-    pub words: Vec<u16>,
+    /// The commands after the opening, each with its answer.
+    pub answers: Vec<(Command, Answer)>,
     pub totals: Totals,
     pub packing: Packing,
 }
@@ -24,28 +25,20 @@ impl Outcome {
         if source.bytes.len() > MAX_STREAM {
             return Self::TooLong;
         }
-        let mut words = vec![0; MAX_COMMANDS];
-        match shelf::shelve(&source.bytes, &mut words) {
+        match Shelved::of(&source.bytes) {
+            Ok(shelved) => Self::Shelved(shelved),
             Err(refusal) => Self::Refused(refusal),
-            Ok(totals) => {
-                let packing = Packing::of(&source.bytes, &words);
-                Self::Shelved(Shelved {
-                    words,
-                    totals,
-                    packing,
-                })
-            }
         }
     }
 
     /// The lines that the program `shelve` prints.
-    pub fn lines(&self, source: &Source) -> String {
+    pub fn lines(&self) -> String {
         match self {
             Self::TooLong => format!("L {MAX_STREAM}\n"),
             Self::Refused(refusal) => {
                 format!("X {} {}\n", refusal.fault.number(), refusal.offset)
             }
-            Self::Shelved(shelved) => shelved.lines(source),
+            Self::Shelved(shelved) => shelved.lines(),
         }
     }
 
@@ -54,17 +47,29 @@ impl Outcome {
         match self {
             Self::TooLong => words::of_length(source),
             Self::Refused(refusal) => words::of_stream(source, *refusal),
-            Self::Shelved(shelved) => words::of_masters(source, &shelved.words),
+            Self::Shelved(shelved) => words::of_masters(source, &shelved.answers),
         }
     }
 }
 
 impl Shelved {
-    fn lines(&self, source: &Source) -> String {
+    pub fn of(stream: &[u8]) -> Result<Self, StreamRefusal> {
+        let (mut words, mut free) = ([0; MAX_COMMANDS], [0; MAX_COMMANDS]);
+        let totals = shelf::shelve(stream, &mut words, &mut free)?;
+        let answers: Vec<_> = shelf::answers(stream, &words, &free).collect();
+        let packing = Packing::of(stream, &answers);
+        Ok(Self {
+            answers,
+            totals,
+            packing,
+        })
+    }
+
+    fn lines(&self) -> String {
         let mut lines = String::new();
-        for (number, (_, answer)) in (1..).zip(shelf::answers(&source.bytes, &self.words)) {
+        for (number, (_, answer)) in (1..).zip(&self.answers) {
             lines += &match answer {
-                Answer::Placed { bin } => format!("P {number} {bin}\n"),
+                Answer::Placed { bin, free } => format!("P {number} {bin} {free}\n"),
                 Answer::Counted { opened } => format!("C {number} {opened}\n"),
                 Answer::Refused(refusal) => format!("R {number} {}\n", refusal.number()),
             };

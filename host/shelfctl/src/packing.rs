@@ -30,8 +30,8 @@ pub struct Packing {
 }
 
 impl Packing {
-    /// The packing that an accepted stream left.
-    pub fn of(stream: &[u8], words: &[u16]) -> Self {
+    /// The packing that an accepted stream left, by its answers.
+    pub fn of(stream: &[u8], answers: &[(Command, Answer)]) -> Self {
         let opening = Opening::read(stream).expect("an accepted stream has an opening");
         let sheet = shelf::sheet(stream);
         let bin = |&row: &Row| Bin {
@@ -43,9 +43,9 @@ impl Packing {
             bins: sheet.rows().iter().map(bin).collect(),
             refused: 0,
         };
-        for (command, answered) in (1..).zip(shelf::answers(stream, words)) {
+        for (command, &answered) in (1..).zip(answers) {
             match answered {
-                (Command::Shelve { size }, Answer::Placed { bin }) => {
+                (Command::Shelve { size }, Answer::Placed { bin, .. }) => {
                     let bin = &mut packing.bins[usize::from(bin) - 1];
                     bin.items.push(Item { command, size });
                 }
@@ -73,6 +73,7 @@ impl Packing {
 #[cfg(test)]
 mod tests {
     use super::*;
+    use crate::outcome::Shelved;
 
     #[test]
     fn the_masters_of_a_cartridge_are_those_of_its_row() {
@@ -80,9 +81,9 @@ mod tests {
         for i in 0..600 {
             stream.shelve(i * 37 % 1_010).count();
         }
-        let mut words = stream.answer_row();
-        let totals = shelf::shelve(stream.bytes(), &mut words).unwrap();
-        let packing = Packing::of(stream.bytes(), &words);
+        let Shelved {
+            totals, packing, ..
+        } = Shelved::of(stream.bytes()).unwrap();
         assert_eq!(packing.bins.len(), usize::from(totals.opened));
         assert_eq!(packing.items(), usize::from(totals.items));
         assert_eq!(packing.items() + packing.refused, 600);

@@ -31,7 +31,7 @@ pub fn of_stream(source: &Source, refusal: StreamRefusal) -> Vec<String> {
         StreamFault::SecondOpening => vec!["a second opening; a stream has one".to_string()],
         StreamFault::OpeningOutsideLimits => outside_limits(&source.bytes),
         StreamFault::TooManyCommands => vec![too_many_commands()],
-        StreamFault::TooFewAnswerWords => vec![refusal.fault.to_string()],
+        StreamFault::TooFewWords => vec![refusal.fault.to_string()],
     };
     let spot = source.spot(refusal.offset);
     reasons.iter().map(|why| format!("{spot}: {why}")).collect()
@@ -85,12 +85,11 @@ pub fn of_length(source: &Source) -> Vec<String> {
 }
 
 /// Which masters of an accepted stream were refused, and why.
-pub fn of_masters(source: &Source, words: &[u16]) -> Vec<String> {
+pub fn of_masters(source: &Source, answers: &[(Command, Answer)]) -> Vec<String> {
     let mut sentences = Vec::new();
     let mut more = 0;
     let offsets = shelf::commands(&source.bytes).map(|(offset, _)| offset);
-    let answers = shelf::answers(&source.bytes, words).zip(offsets);
-    for (number, (answered, offset)) in (1..).zip(answers) {
+    for (number, (answered, offset)) in (1..).zip(answers.iter().zip(offsets)) {
         let (Command::Shelve { size }, Answer::Refused(why)) = answered else {
             continue;
         };
@@ -116,12 +115,16 @@ pub fn of_masters(source: &Source, words: &[u16]) -> Vec<String> {
 #[cfg(test)]
 mod tests {
     use super::*;
+    use crate::outcome::Shelved;
     use crate::text::read_text;
+
+    fn refusal(stream: &[u8]) -> StreamRefusal {
+        Shelved::of(stream).err().expect("a stream with a fault")
+    }
 
     fn refused(stream: &[u8]) -> Vec<String> {
         let source = Source::raw(stream.to_vec());
-        let refusal = shelf::shelve(stream, &mut [0; MAX_COMMANDS]).unwrap_err();
-        of_stream(&source, refusal)
+        of_stream(&source, refusal(stream))
     }
 
     #[test]
@@ -160,9 +163,8 @@ mod tests {
     fn the_command_too_many_is_found_in_a_text() {
         let source = read_text(format!("open 60 4 6{}", "\n\ncount".repeat(4097)).as_bytes());
         let source = source.unwrap_or_else(|_| panic!("a good text"));
-        let refusal = shelf::shelve(&source.bytes, &mut [0; MAX_COMMANDS]).unwrap_err();
         assert_eq!(
-            of_stream(&source, refusal),
+            of_stream(&source, refusal(&source.bytes)),
             ["line 8195: this is command 4097; at most 4096 may follow the opening"]
         );
     }
@@ -173,9 +175,8 @@ mod tests {
             let source =
                 read_text(format!("open 1 1 6{}", "\nshelve 2".repeat(masters)).as_bytes());
             let source = source.unwrap_or_else(|_| panic!("a good text"));
-            let mut words = vec![0; masters];
-            shelf::shelve(&source.bytes, &mut words).unwrap();
-            of_masters(&source, &words)
+            let shelved = Shelved::of(&source.bytes).unwrap();
+            of_masters(&source, &shelved.answers)
         };
         let first = "line 2: the master of 2 units (command 1) was refused with 9: \
                      size above the capacity";
