@@ -2,10 +2,11 @@
 use mathlib.Core.Path.{_≡_, sym, _∙_}
 use native.Mathlib.Omega.{arith}
 use borrow.Author.Needs.{needs}
+use Rattle.stream.proofs.Shelved.{Shelved, shelved, shelved-opening}
 use Rattle.report.specs.Lines.{refusal}
 use Rattle.report.proofs.Texts.{printing-long, printing-refused}
 use Rattle.sheet.specs.Sheet.{sheetText, sheet}
-use Rattle.sheet.proofs.Shelved.{Shelved, shelved, shelved-opening, shelved-legible, shelved-text}
+use Rattle.sheet.proofs.Shelved.{shelved-legible, shelved-text}
 use Rattle.sheet.proofs.print.Statement.{statement}
 use Rattle.sheet.proofs.print.Tie as tie
 
