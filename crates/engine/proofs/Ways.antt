@@ -7,7 +7,7 @@ use native.Mathlib.Decide.{ℕ-discrete}
 use native.Mathlib.Omega.{arith}
 use lib.ListN.{length, set}
 use lib.Seq.{getD-set-same, getD-set-other}
-use Rattle.packing.specs.declared.{Opening.Opening, Answer.Answer, ItemReason.ItemReason}
+use Rattle.packing.specs.declared.{Opening.Opening, Tally.Tally, ItemReason.ItemReason}
 use Rattle.packing.specs.declared.Outcome.the-variants.{Placed, Counted, Refused}
 use Rattle.packing.specs.declared.Command.the-variants.{Shelve, Count}
 use Rattle.packing.specs.Bins.{Packing}
@@ -22,13 +22,14 @@ use Rattle.aim.specs.Aims.{home, aFor, accepting}
 use Rattle.aim.proofs.Aiming.{a-few}
 use Rattle.ledger.specs.Rows.{places, rowAt, classIn}
 use Rattle.ledger.specs.Entering.{entering, Entered}
+use Rattle.ledger.specs.Counting.{Tallied}
 use Rattle.ledger.proofs.Chosen.{free-left}
 use Rattle.ledger.proofs.Entering.{IsEntry, row-before, records-placed}
 use Rattle.index.specs.Shown.{Shown}
 use Rattle.index.proofs.Indexing.{indexes-set}
 use Rattle.engine.specs.declared.Spot.{Spot}
 use Rattle.engine.specs.Store.{Store, store, Few, Sound, Represents}
-use Rattle.engine.specs.Done.{answering, Counting, Modelled, Done}
+use Rattle.engine.specs.Done.{answering, Modelled, Done}
 use Rattle.engine.proofs.Aimed.{Aimed, phase-few, a-more, phase-after}
 use Rattle.engine.proofs.Spotted.{IsSpot, Spotted}
 
@@ -110,15 +111,15 @@ module _ {o : Opening} {c : Counters} {size n : ℕ} (a : Aimed o c size n) {s :
           more f = record { held = omega (arith, f .held); held-a = omega (arith, f .held-a, a-few n) }
 
 -- A count: the store stays.
-pub counting : {c : Counters} {number : ℕ} → Counting c number (answering number (Counted (c .opened)))
-counting = record { counted = refl; model = λ o trees ledger p r. rw (r .bins) }
-
-pub done-count : {o : Opening} {shape : Shape} {w : Store} {number : ℕ} {r : Answer} → Sound o shape w → Counting (w .counters) number r
-    → Done o shape w number Count r w
-done-count {o} {shape} {w} sound m = record {
+pub done-count : {o : Opening} {shape : Shape} {w : Store} {number : ℕ} {t : Tally} → Sound o shape w → Tallied (w .ledger) (o .stock) t
+    → Done o shape w number Count (answering number (Counted (t .figure))) w
+done-count {o} sound m = record {
   sound = sound;
-  numbered = ap (λ (x : Answer). x .number) (m .counted);
-  model = λ p q. record { answered = ap (λ (x : Answer). x .outcome) (m .model o (w .trees) (w .ledger) p q); represents = q };
-  items = rw (m .counted) (omega arith);
+  numbered = refl;
+  model = λ p r. record {
+    answered = ap (λ (x : Tally). Counted (x .figure)) (m .model o p (r .records) (omega (arith, r .bins, sound .within)));
+    represents = r;
+  };
+  items = omega arith;
   refused = λ reason e. refl;
 }

@@ -1,11 +1,9 @@
 -- What a step promises: at every packing that the store represents, the model's answer and the model's next packing.
 use mathlib.Core.Path.{_≡_}
-use mathlib.Core.List.{List}
 use Prim.Native.Nat.{ℕ, _+_}
 use lib.ListN.{length}
 use Rattle.packing.specs.declared.{Opening.Opening, Command.Command, Outcome.Outcome, Answer.Answer, ItemReason.ItemReason}
-use Rattle.packing.specs.declared.Command.the-variants.{Count}
-use Rattle.packing.specs.declared.Outcome.the-variants.{Counted, Refused}
+use Rattle.packing.specs.declared.Outcome.the-variants.{Refused}
 use Rattle.packing.specs.Bins.{Packing}
 use Rattle.packing.specs.Run.{answerTo, next, placement}
 use Rattle.tournament.specs.declared.Shape.{Shape}
@@ -20,12 +18,6 @@ answering number a = record { number = number; outcome = a }
 -- with the counters after it
 abbrev pub giving : ℕ → Outcome → Counters → Answered
 giving number a c = record { answer = answering number a; next = c }
-
--- The count of bins opened is the model's, at every packing of every store with these counters.
-pub record Counting (c : Counters) (number : ℕ) (r : Answer) : Type 0 where
-  pub counted : r ≡ answering number (Counted (c .opened))
-  pub model : (o : Opening) (trees : List ℕ) (ledger : List (List ℕ)) (p : Packing) → Represents o (store trees ledger c) p
-      → r ≡ answering number (answerTo o p Count)
 
 pub record Modelled (o : Opening) (command : Command) (a : Outcome) (u : Store) (p : Packing) : Type 0 where
   pub answered : a ≡ answerTo o p command

@@ -19,7 +19,7 @@ ghost use Rattle.packing.specs.declared.Outcome.the-variants.{Refused};
 ghost use Rattle.index.specs.Trees.{Forest};
 ghost use Rattle.engine.specs.Store.{store, Ready};
 ghost use Rattle.engine.specs.Spots.{spotFor};
-ghost use Rattle.engine.specs.Done.{giving, Counting, Done};
+ghost use Rattle.engine.specs.Done.{giving, Done};
 
 // What a command comes to, and the counters after it.
 pub struct Answered {
@@ -156,19 +156,8 @@ pub fn place(
     refuse(number, ItemReason::AboveCapacity, counters)
 }
 
-// How many bins are opened.
-pub fn count(counters: Counters, number: usize) -> Answer
-    requires { ⌜ counters .opened ≤ 512 ⌝ }
-    ensures { λ r. ⌜ Counting counters number r ⌝ }
-{
-    let opened = counters.opened as u16;
-    Answer {
-        number,
-        outcome: Outcome::Counted(opened),
-    }
-}
-
-// Answers a command after the opening.
+// Answers a command after the opening. How many bins are opened is told by a walk over the ledger, of which the answer has the figure and not the places
+// read.
 pub fn answer(
     trees: &mut [u32; ROW_WORDS],
     ledger: &mut [[u32; COLUMNS]; BINS],
@@ -184,7 +173,12 @@ pub fn answer(
     match command {
         Command::Shelve(size) => place(trees, ledger, shape, counters, opening, number, size),
         Command::Count => {
-            let answer = count(counters, number);
+            let tally = ledger::count(ledger, opening.stock);
+            let figure = tally.figure;
+            let answer = Answer {
+                number,
+                outcome: Outcome::Counted(figure),
+            };
             Answered {
                 answer,
                 next: counters,

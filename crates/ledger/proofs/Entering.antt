@@ -15,6 +15,7 @@ use Rattle.packing.specs.SizeClasses.{isA}
 use Rattle.packing.specs.Bins.{Item, Bin, Packing, load, add, kind}
 use Rattle.packing.specs.Placing.{classOf, target, takes, placed}
 use Rattle.packing.specs.Run.{item}
+use Rattle.packing.proofs.Counting.{classed-placed}
 use Rattle.ledger.specs.Rows.{places, blank, rowAt, heldIn, heldAIn}
 use Rattle.ledger.specs.Records.{heldA, rowOf, rowFor, Records}
 use Rattle.ledger.specs.Entering.{Entered}
@@ -68,6 +69,7 @@ module _ {o : Opening} {p : Packing} {ledger : List (List ℕ)} (k : Records o l
       row = λ i l. ap (λ (rows : List (List ℕ)). rowAt rows i) (d .ledger-is)
           ∙ here i l
           ∙ sym (put-at (rowOf o) blank (takes o p (item size)) (newBin o p size) (item size) (p .bins) i);
+      classed = classed-placed o p (item size) (k .classed);
     }
       where
         here : (i : ℕ) → i < places → rowAt (set ledger place row) i

@@ -3,4 +3,5 @@ pub mod Chosen
 pub mod Entering
 pub mod Offering
 pub mod Rows
+pub mod Counting
 pub mod Empty

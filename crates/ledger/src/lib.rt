@@ -1,6 +1,8 @@
 // The ledger: what is known of each bin, in plain rows and without a tree. Bin i + 1 has the row at place i, of four words; a place whose bin is not
 // opened has a row of zeros. It is lent by the caller, whole.
+use packing::Tally;
 ghost use Rattle.ledger.specs.Entering.{Enterable, Entered};
+ghost use Rattle.ledger.specs.Counting.{Countable, Tallied};
 
 // A place for each bin that a stock can have.
 pub const BINS: usize = 512;
@@ -34,4 +36,26 @@ pub fn enter(
     let row = [class, free, held, held_a];
     ledger[place] = row;
     row
+}
+
+// How many bins of a stock are opened: a walk over their classes, from the first place to the first that is not opened, since opened ones have no gaps
+// among them. It hands back the places that it read too.
+pub fn count(ledger: &[[u32; COLUMNS]; BINS], stock: u16) -> Tally
+    requires { ⌜ Countable (now ledger) stock ⌝ }
+    ensures { λ r. ⌜ Tallied (now (ledger .entry)) stock r ⌝ }
+{
+    let mut place: u16 = 0;
+    let mut read: u16 = 0;
+    let figure = loop {
+        if place == stock {
+            break stock;
+        }
+        let row = ledger[place as usize];
+        read += 1;
+        if row[CLASS] == 0 {
+            break place;
+        }
+        place += 1;
+    };
+    Tally { figure, read }
 }

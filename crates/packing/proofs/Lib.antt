@@ -12,6 +12,7 @@ pub mod Reached
 pub mod Numbers
 pub mod Holding
 pub mod FreeUnits
+pub mod Counting
 pub mod Running
 pub mod LeftOut
 pub mod Given

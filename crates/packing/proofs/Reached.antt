@@ -53,7 +53,7 @@ module _ (o : Opening) where
   opens-its-class n X = refl
 
   -- The class of the bin that is opened is one of the four.
-  opens-class : (n : ℕ) (k : SizeClass) → (1 ≤ classOf (targetOf o n k)) × (classOf (targetOf o n k) ≤ 4)
+  pub opens-class : (n : ℕ) (k : SizeClass) → (1 ≤ classOf (targetOf o n k)) × (classOf (targetOf o n k) ≤ 4)
   opens-class n A = omega arith
   opens-class n B1 = omega arith
   opens-class n B2 = go (eqb (suc n % o .m) 0)

@@ -9,11 +9,12 @@ use Rattle.packing.specs.Refusals.{isRefused}
 use Rattle.packing.specs.Bins.{Packing, empty, opened}
 use Rattle.packing.specs.Run.{done, packing, placements}
 use Rattle.packing.specs.Compared.{numberOpened}
-use Rattle.packing.specs.Claims.{HoldsAnswered, NeverOverfull, LoadsAddUp, Prefix, RefusedLeftOut, AnswersInRange, Counts, RefusedChangesNothing}
+use Rattle.packing.specs.Claims.{HoldsAnswered, NeverOverfull, LoadsAddUp, Prefix, RefusedLeftOut, AnswersInRange, Counts, EarlyCount, RefusedChangesNothing}
 use Rattle.packing.proofs.Moves.{trace}
 use Rattle.packing.proofs.Reached.{reached}
 use Rattle.packing.proofs.Numbers.{trace-opened, trace-weight, trace-entries, at-most-greatest}
 use Rattle.packing.proofs.Holding.{trace-items, shown-few}
+use Rattle.packing.proofs.Counting.{numbers-answered, walk-finds}
 use Rattle.packing.proofs.Running.{prefix-from, count-from}
 use Rattle.packing.proofs.LeftOut.{kept-alike, resent-packing, resent-bins}
 pub use Rattle.packing.proofs.SizeClasses.{class-bounds, bounds-class}
@@ -67,9 +68,15 @@ module _ (o : Opening) (cs : List Command) where
   counts =
       record {
         bins = opened-is o cs;
+        no-gaps = λ j n. numbers-answered o (take j cs) n;
         answered = λ j later e. count-from o j 1 empty cs later e ∙ ap (λ n. n ∷ []) (opened-is o (take j cs));
         returned = rw (opened-is o cs, length-map);
       }
+
+  pub early-count : EarlyCount o cs
+  early-count j =
+      let r = reached o (take j cs) in
+      rw (← opened-is o (take j cs)) (walk-finds (o .stock) (packing o (take j cs) .bins) (λ b m. r .bins-sound b m .from-class-1) (r .stock-lasts))
 
 pub refused-changes-nothing : (o : Opening) (p : Packing) (c : Command) → RefusedChangesNothing o p c
 refused-changes-nothing o p c reason e = ap (λ a. if isRefused a then p else done o p c) e

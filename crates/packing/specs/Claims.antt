@@ -1,6 +1,6 @@
 -- What is promised of the model, as statements; ../proofs shows each of every opening and every list of commands. Demand 3 and the plan of a packing's
 -- own answers are stated in the crate worst_case.
-use Rattle.packing.specs.Prelude.{ℕ, suc, _+_, _*_, _≤_, _<_, _≡_, _↔_, Bool, true, _||_, List, [], _∷_, _++_, map, zipWith, reverse, length, take, drop, List·Memᴰ, total, _=?_}
+use Rattle.packing.specs.Prelude.{ℕ, suc, _+_, _*_, _≤_, _<_, min, _≡_, _↔_, Bool, true, _||_, List, [], _∷_, _++_, map, zipWith, reverse, length, take, drop, List·Memᴰ, total, any, _=?_}
 use Rattle.packing.specs.Prelude.{Opening, SizeClass, A, B1, B2, X, Command, Shelve, Count, Outcome, Placed, Refused, ItemReason, StockSpent, Entry, StreamResult, PlanResult}
 use Rattle.packing.specs.Refusals.{word, freeUnits, outcomeOf, figures, streamGives, planGives}
 use Rattle.packing.specs.Bins.{Item, Bin, Packing, opened, load, itemsOf, kind}
@@ -8,6 +8,7 @@ use Rattle.packing.specs.Placing.{permitted, target, takes}
 use Rattle.packing.specs.Limits.{openingGood, mostCommands}
 use Rattle.packing.specs.Streams.{openingLength, openingOf, behindOpening, accepted, commands, verdict}
 use Rattle.packing.specs.Run.{item, answerTo, next, packing, outcomes, answers, placements, result}
+use Rattle.packing.specs.Counting.{stockPlaces, walk}
 use Rattle.packing.specs.Compared.{acceptedSizes, numberOpened, sizesIn}
 use Rattle.packing.specs.LeftOut.{kept, outcomesKept}
 
@@ -84,11 +85,19 @@ module _ (o : Opening) (cs : List Command) where
     pub to-opened : (e : Entry) → List·Memᴰ e (placements o cs) → e .bin ≤ numberOpened o cs
     pub to-stock : numberOpened o cs ≤ o .stock
 
-  -- A count answered equals the number opened there, and so does, after the last command, the total returned.
+  -- A count answered equals the number opened there, and so does, after the last command, the total returned. "Opened ones have no gaps among them":
+  -- after each command a number was answered to an accepted item exactly if it is from 1 to the number opened.
   pub record Counts : Type 0 where
     pub bins : opened (packing o cs) ≡ numberOpened o cs
+    pub no-gaps : (j n : ℕ) → (any (λ e. e .bin =? n) (placements o (take j cs)) ≡ true) ↔ ((1 ≤ n) × (n ≤ numberOpened o (take j cs)))
     pub answered : (j : ℕ) (later : List Command) → drop j cs ≡ Count ∷ later → take 1 (drop j (map word (outcomes o cs))) ≡ numberOpened o (take j cs) ∷ []
     pub returned : streamGives (result (accepted o cs)) ≡ figures (length (acceptedSizes o cs) ∷ numberOpened o cs ∷ [])
+
+  -- After each command the walk over the places of the stock finds the number opened, and has read "the lesser of the stock and the figure plus one".
+  abbrev pub EarlyCount : Type 0
+  EarlyCount =
+      (j : ℕ) → walk (stockPlaces (o .stock) (packing o (take j cs) .bins))
+      ≡ record { figure = numberOpened o (take j cs); read = min (o .stock) (numberOpened o (take j cs) + 1) }
 
 -- Document 01's numbers give a result back: no two results share them.
 abbrev pub StreamGivesBack : Type 0

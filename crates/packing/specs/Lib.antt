@@ -7,6 +7,7 @@ pub mod Bins
 pub mod Placing
 pub mod Streams
 pub mod Run
+pub mod Counting
 pub mod Plans
 pub mod Compared
 pub mod LeftOut

@@ -8,7 +8,7 @@ pub use mathlib.Core.List.{List, [], _∷_, _++_, map, foldl, reverse, List·Mem
 unfoldable pub use mathlib.Core.List.{zipWith, flatten}
 pub use lib.ListN.{length, take, drop, replicate, getD}
 pub use Rattle.packing.specs.declared.{Opening.Opening, SizeClass.SizeClass, PerClass.PerClass, Command.Command, WidthRow.WidthRow, Width.Width}
-pub use Rattle.packing.specs.declared.{ItemReason.ItemReason, Outcome.Outcome, Answer.Answer, StreamReason.StreamReason, StreamResult.StreamResult}
+pub use Rattle.packing.specs.declared.{ItemReason.ItemReason, Outcome.Outcome, Answer.Answer, Tally.Tally, StreamReason.StreamReason, StreamResult.StreamResult}
 pub use Rattle.packing.specs.declared.{Entry.Entry, PlanReason.PlanReason, PlanResult.PlanResult}
 pub use Rattle.packing.specs.declared.SizeClass.the-variants.{A, B1, B2, X}
 pub use Rattle.packing.specs.declared.Command.the-variants.{Shelve, Count}

@@ -5,7 +5,8 @@ use Rattle.packing.specs.Refusals.{word, freeUnits}
 use Rattle.packing.specs.SizeClasses.{sizeClass}
 use Rattle.packing.specs.Placing.{firstFit, put, decision, placed}
 use Rattle.packing.specs.Streams.{widths, lookup, commands, read, verdict}
-use Rattle.packing.specs.Run.{runFrom, outcomes, result, rowAtExit}
+use Rattle.packing.specs.Run.{runFrom, packing, outcomes, result, rowAtExit}
+use Rattle.packing.specs.Counting.{stockPlaces, walk}
 use Rattle.packing.specs.Plans.{planOf, limits, fault, entries, check}
 use Rattle.packing.specs.Compared.{numberOpened, used}
 
@@ -32,6 +33,10 @@ shelved c stock sizes = words (map word (outcomes (opening c stock) (map Shelve 
 
 abbrev pub left : (capacity stock : ℕ) → List ℕ → Finding
 left c stock sizes = words (map freeUnits (outcomes (opening c stock) (map Shelve sizes)))
+
+-- What a count hands back after these sizes at capacity 60: the figure, and the places read.
+abbrev pub counted : (stock : ℕ) → List ℕ → Finding
+counted stock sizes = let t = walk (stockPlaces stock (packing (opening 60 stock) (map Shelve sizes) .bins)) in words (t .figure ∷ t .read ∷ [])
 
 abbrev pub planned : (capacity k : ℕ) (sizes bins : List ℕ) → Finding
 planned c k sizes bins = checked (check c k (planOf sizes bins) sizes)
@@ -75,6 +80,11 @@ table =
     shelved 60 2 (31 ∷ 31 ∷ replicate 6 22) is words (1 ∷ 2 ∷ replicate 6 32_778) ∷
     -- Free units: a full bin leaves none, and a refused item has none.
     left 60 512 (60 ∷ 30 ∷ 30 ∷ 0 ∷ 22 ∷ []) is words (0 ∷ 30 ∷ 0 ∷ 0 ∷ 38 ∷ []) ∷
+    -- A count reads one place more than are opened, and all of a stock that is spent.
+    counted 4 [] is words (0 ∷ 1 ∷ []) ∷
+    counted 4 (31 ∷ 31 ∷ 22 ∷ []) is words (3 ∷ 4 ∷ []) ∷
+    counted 4 (replicate 5 60) is words (4 ∷ 4 ∷ []) ∷
+    counted 1 (60 ∷ []) is words (1 ∷ 1 ∷ []) ∷
     -- The sample stream, with two words more in each row than it has commands.
     returned (result (verdict sample 12)) is returned (StreamResult.Accepted 8 4) ∷
     words (rowAtExit word (verdict sample 12) (replicate 12 7)) is words (1 ∷ 2 ∷ 2 ∷ 3 ∷ 3 ∷ 4 ∷ 1 ∷ 32_778 ∷ 4 ∷ 4 ∷ 7 ∷ 7 ∷ []) ∷
@@ -82,5 +92,5 @@ table =
     []
 
 pub worked-shelves : map (λ c. c .0) table ≡ map (λ c. c .1) table
-unfolding table sizeClass total greatest any firstFit put decision placed runFrom zipWith flatten used limits fault entries check widths lookup commands read
+unfolding table sizeClass total greatest any firstFit put decision placed runFrom stockPlaces walk zipWith flatten used limits fault entries check widths lookup commands read
 worked-shelves = refl

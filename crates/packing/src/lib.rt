@@ -63,6 +63,12 @@ pub struct Answer {
     pub outcome: Outcome,
 }
 
+// What the walk of a count hands back: the figure, which is the number of bins opened, and the places of the stock that it read to tell.
+pub struct Tally {
+    pub figure: u16,
+    pub read: u16,
+}
+
 // Why a whole stream is refused: 1 to 7.
 pub enum StreamReason {
     NoOpening,

@@ -21,9 +21,10 @@ ghost use Rattle.sheet.specs.Claims.{LinesOf40, OneRowEach, SheetLoadsAddUp, Fr
 ghost use Rattle.shelf.specs.Accepted.{WhenAccepted};
 
 // Shelves the items of a command stream, and answers each command by a word of each of the two rows that the caller lends. Of the packing so made, if
-// no refusal stops the stream: bin n holds the items answered n, and no bin is overfull; the free units beside an answer are those of its bin, until
-// the bin is answered again; the loads add up to the sizes accepted; the checker passes the plan of its own answers; and (demand 3) after each command
-// 3 times the number opened is at most 5k + 15, for every plan that passes and uses k bins.
+// no refusal stops the stream: every count is of the bins opened by then, whose numbers have no gaps among them; bin n holds the items answered n, and
+// no bin is overfull; the free units beside an answer are those of its bin, until the bin is answered again; the loads add up to the sizes accepted;
+// the checker passes the plan of its own answers; and (demand 3) after each command 3 times the number opened is at most 5k + 15, for every plan that
+// passes and uses k bins.
 pub fn shelve(stream: &[u8], answers: &mut [u16], free: &mut [u32]) -> StreamResult
     ensures result { λ r. ⌜ streamGives r ≡ streamGives (result (verdict (now (stream .entry)) (wordsLent (now (answers .entry)) (now (free .entry))))) ⌝ }
     ensures answers { λ _. ⌜ now (answers .exit) ≡ rowAtExit word (verdict (now (stream .entry)) (wordsLent (now (answers .entry)) (now (free .entry)))) (now (answers .entry)) ⌝ }

@@ -15,7 +15,9 @@ enum-told : tie.Need-enum-told
 enum-told c = search needs
 
 count-requires : tie.Need-count-requires
-count-requires c κs = let sound = c .before .before .pre .sound in omega (arith, sound .within, sound .stock, sound .index .forest .few)
+count-requires c κs =
+    let sound = c .before .before .before .pre .sound in
+    record { whole = sound .represents .records .whole; few = omega (arith, sound .stock, sound .index .forest .few) }
 
 returns : tie.Need-returns
 returns c =
@@ -24,8 +26,8 @@ returns c =
 
 returns-2 : tie.Need-returns-2
 returns-2 c =
-    let start = c .before .before .before in
-    rw (c .before .enum-told .given .1) (done-count (start .pre .sound) (c .count .ensures))
+    let told = c .before .before in
+    rw (told .enum-told .given .1) (done-count (told .before .before .pre .sound) (c .count .ensures))
 
 pub answer-spec : {M : Type 1} → statement M
 answer-spec = tie.close (tie.spec enum-known-command place-requires enum-told count-requires returns returns-2)
