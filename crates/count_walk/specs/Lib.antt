@@ -1,0 +1,2 @@
+-- What a count hands back after a stream.
+pub mod After
