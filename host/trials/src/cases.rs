@@ -10,6 +10,8 @@ use crate::plans::PlanTrial;
 use crate::rows::{self, Lent};
 use crate::sheet_cases;
 use crate::streams::StreamTrial;
+use crate::walk::Program;
+use crate::walk_cases;
 use crate::wire::Command::{self, Count, Shelve};
 use crate::wire::{opening, refuse, refused_word as r, Opening, Refusal, Stream, MOST_COMMANDS};
 use crate::written;
@@ -22,6 +24,8 @@ const OPEN: Opening = opening(60, 4, 6);
 pub struct Cases {
     pub tried: usize,
     pub failed: Vec<String>,
+    /// Walks that were compared with the program's.
+    pub walks: usize,
 }
 
 impl Cases {
@@ -44,7 +48,7 @@ impl Cases {
 
     /// What a stream comes to by the library, whose free units are held against
     /// its own answers and sheet besides.
-    fn library(&mut self, name: &str, trial: &StreamTrial, expected: &Outcome) {
+    pub fn library(&mut self, name: &str, trial: &StreamTrial, expected: &Outcome) {
         let library = by_library(trial);
         self.outcome(name, "library", &library, expected);
         let fault = figures::fault(trial, &library);
@@ -156,7 +160,9 @@ fn own_plan(entries: &[(u32, u32)], capacity: u32, k: u32) -> PlanTrial {
     plan(entries, &items, capacity, k)
 }
 
-pub fn run() -> Cases {
+/// All of them. The error is that of the program that walks, if one is given
+/// and cannot be run.
+pub fn run(program: Option<&Program>) -> Result<Cases, String> {
     let mut cases = Cases::default();
     size_classes(&mut cases);
     worked_shelves(&mut cases);
@@ -171,7 +177,8 @@ pub fn run() -> Cases {
     worst_lists(&mut cases);
     free_cases::run(&mut cases);
     sheet_cases::run(&mut cases);
-    cases
+    walk_cases::run(&mut cases, program)?;
+    Ok(cases)
 }
 
 fn size_classes(cases: &mut Cases) {

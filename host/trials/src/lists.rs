@@ -44,6 +44,8 @@ enum Sizes {
     /// Fractions that leave little free.
     Parts,
     Small,
+    /// None that a bin can hold.
+    Bad,
 }
 
 fn random_sizes(rng: &mut Rng) -> Sizes {
@@ -83,6 +85,7 @@ fn random_size(rng: &mut Rng, sizes: Sizes, capacity: u32) -> u32 {
             (c / q + rng.between(0, 4)).saturating_sub(2)
         }
         Sizes::Small => rng.between(1, c / 8 + 1),
+        Sizes::Bad => bad_size(rng, capacity).into(),
     };
     size as u32
 }
@@ -166,6 +169,30 @@ pub fn b2_run(rng: &mut Rng) -> Stream {
         }
     }
     Stream { opening, commands }
+}
+
+/// A count after every command, as panels send them, or before it: with nothing
+/// opened, over a small stock that is often spent, over any stock, and as many
+/// commands as are allowed.
+pub fn counted(rng: &mut Rng) -> Stream {
+    let mut opening = random_opening(rng);
+    let (sizes, len) = match rng.between(0, 9) {
+        0..=1 => (Sizes::Bad, rng.place(5)),
+        2..=6 => {
+            opening.stock = rng.between(1, 8) as u16;
+            (random_sizes(rng), rng.place(40))
+        }
+        7..=8 => (random_sizes(rng), rng.place(100)),
+        _ => (random_sizes(rng), MOST_COMMANDS / 2),
+    };
+    let mut stream = mixed(rng, opening, sizes, len);
+    let after = rng.chance(50);
+    let counted = |command| match after {
+        true => [command, Count],
+        false => [Count, command],
+    };
+    stream.commands = stream.commands.into_iter().flat_map(counted).collect();
+    stream
 }
 
 /// One of the families, as it is or nearly so.

@@ -1,9 +1,12 @@
 //! Compares the library with [`paper`] and [`sheet`], a simple version written
 //! from the specification alone, over random streams and plans; and holds its
 //! answers against themselves: the figures of [`figures`], and the fewest bins.
+//! How many places a count reads is no part of the interface, and is compared
+//! with what a program of its own prints ([`walk`]).
 //!
-//! `trials [--streams N] [--plans N] [--seed S]`. The first difference is made
-//! small and printed with both answers, and the exit status is 1.
+//! `trials [--streams N] [--plans N] [--seed S] [--count-walk PROGRAM]`. The
+//! first difference is made small and printed with both answers, and the exit
+//! status is 1.
 
 mod cases;
 mod compare;
@@ -20,6 +23,8 @@ mod sheet;
 mod sheet_cases;
 mod smaller;
 mod streams;
+mod walk;
+mod walk_cases;
 mod wire;
 mod written;
 
@@ -28,21 +33,40 @@ use std::time::{Instant, SystemTime, UNIX_EPOCH};
 
 use compare::{by_library, by_paper, plan_by_library, Outcome};
 use fewest::{first_fit_decreasing, Fewest};
+use paper::Shelved;
 use plans::PlanTrial;
 use rng::Rng;
-use smaller::{show_plan, show_stream};
-use streams::StreamTrial;
+use smaller::{show_plan, show_stream, show_walk};
+use streams::{StreamTrial, COUNTS};
+use walk::{Found, Program};
 use wire::Stream;
 
-const USAGE: &str = "usage: trials [--streams N] [--plans N] [--seed S]";
+const USAGE: &str = "usage: trials [--streams N] [--plans N] [--seed S] [--count-walk PROGRAM]";
 
 /// The longest list whose fewest bins are searched for.
 const SHORT: usize = 13;
+
+/// One stream of so many is given to the program that walks, besides all that
+/// are made for counting: to start it takes longer than any other trial.
+const WALKED: u64 = 20;
 
 struct Settings {
     streams: u64,
     plans: u64,
     seed: u64,
+    count_walk: Option<Program>,
+}
+
+impl Settings {
+    /// The stream trial of this number.
+    fn stream(&self, index: u64) -> StreamTrial {
+        streams::random(&mut Rng::of_trial(self.seed, 2 * index))
+    }
+
+    /// The plan trial of this number.
+    fn plan(&self, index: u64) -> PlanTrial {
+        plans::random(&mut Rng::of_trial(self.seed, 2 * index + 1))
+    }
 }
 
 fn settings() -> Option<Settings> {
@@ -51,18 +75,28 @@ fn settings() -> Option<Settings> {
         streams: 10_000,
         plans: 10_000,
         seed: now.as_nanos() as u64 % 1_000_000_000,
+        count_walk: None,
     };
     let mut args = std::env::args().skip(1);
     while let Some(arg) = args.next() {
-        let value = args.next()?.replace(',', "").parse().ok()?;
+        let value = args.next()?;
+        let number = || value.replace(',', "").parse().ok();
         match arg.as_str() {
-            "--streams" => settings.streams = value,
-            "--plans" => settings.plans = value,
-            "--seed" => settings.seed = value,
+            "--streams" => settings.streams = number()?,
+            "--plans" => settings.plans = number()?,
+            "--seed" => settings.seed = number()?,
+            "--count-walk" => settings.count_walk = Some(Program(value.into())),
             _ => return None,
         }
     }
     Some(settings)
+}
+
+/// Why a run ends before its end.
+enum Failure {
+    Difference(String),
+    /// The program that walks cannot be run.
+    Program(String),
 }
 
 fn main() -> ExitCode {
@@ -70,45 +104,54 @@ fn main() -> ExitCode {
         eprintln!("{USAGE}");
         return ExitCode::from(2);
     };
-    let Settings {
-        streams,
-        plans,
-        seed,
-    } = settings;
     compare::quiet_panics();
-    println!("seed {seed}");
-    match run(streams, plans, seed) {
+    println!("seed {}", settings.seed);
+    match run(&settings) {
         Ok(()) => ExitCode::SUCCESS,
-        Err(difference) => {
+        Err(Failure::Difference(difference)) => {
             println!("DIFFERENCE: {difference}");
             ExitCode::from(1)
+        }
+        Err(Failure::Program(why)) => {
+            eprintln!("trials: no walk to compare with: {}", why.trim_end());
+            ExitCode::from(2)
         }
     }
 }
 
-fn run(streams: u64, plans: u64, seed: u64) -> Result<(), String> {
+fn run(settings: &Settings) -> Result<(), Failure> {
     let start = Instant::now();
+    let program = settings.count_walk.as_ref();
 
-    let cases = cases::run();
+    let cases = cases::run(program).map_err(Failure::Program)?;
     if !cases.failed.is_empty() {
-        return Err(format!("named cases\n{}", cases.failed.join("\n")));
+        let failed = cases.failed.join("\n");
+        return Err(Failure::Difference(format!("named cases\n{failed}")));
     }
     println!("named cases: {} checks", cases.tried);
 
     let mut tally = Tally::default();
-    for index in 0..streams {
-        let trial = streams::random(&mut Rng::of_trial(seed, 2 * index));
-        try_stream(trial, &mut tally).map_err(|what| format!("stream trial {index}, {what}"))?;
+    for index in 0..settings.streams {
+        let difference = |what| Failure::Difference(format!("stream trial {index}, {what}"));
+        try_stream(settings.stream(index), &mut tally).map_err(difference)?;
     }
     println!("{tally}");
 
+    match program {
+        Some(program) => {
+            let random = try_walks(settings, program)?;
+            println!("walks: compared on {} named and {random}", cases.walks);
+        }
+        None => println!("walks: no program to compare with, left out"),
+    }
+
     let mut passed = 0;
-    for index in 0..plans {
-        let trial = plans::random(&mut Rng::of_trial(seed, 2 * index + 1));
-        let passes = try_plan(trial).map_err(|what| format!("plan trial {index}, {what}"))?;
+    for index in 0..settings.plans {
+        let difference = |what| Failure::Difference(format!("plan trial {index}, {what}"));
+        let passes = try_plan(settings.plan(index)).map_err(difference)?;
         passed += u64::from(passes);
     }
-    println!("plans: {plans}, of these {passed} passed");
+    println!("plans: {}, of these {passed} passed", settings.plans);
     println!("no difference, {:.1} s", start.elapsed().as_secs_f64());
     Ok(())
 }
@@ -118,6 +161,8 @@ fn run(streams: u64, plans: u64, seed: u64) -> Result<(), String> {
 struct Tally {
     streams: u64,
     accepted: u64,
+    /// What the counts found.
+    counts: Found,
     /// Prefixes whose fewest bins were found.
     prefixes: u64,
     /// The largest `3 * opened - 5 * k` over these.
@@ -129,12 +174,14 @@ impl std::fmt::Display for Tally {
         let Self {
             streams,
             accepted,
+            counts,
             prefixes,
             worst,
         } = self;
         write!(
             f,
             "streams: {streams}, of these {accepted} accepted\n\
+             streams with counts: {counts}\n\
              fewest cartridges k at {prefixes} points: 3 * opened - 5 * k is at most {worst}"
         )
     }
@@ -152,6 +199,16 @@ fn try_stream(trial: StreamTrial, tally: &mut Tally) -> Result<(), String> {
     if let Some(fault) = figures::fault(&trial, &outcome) {
         let faulty = |trial: &StreamTrial| figures::fault(trial, &by_library(trial)).is_some();
         return Err(format!("{kind}: {fault}\n{}", show_stream(trial, faulty)));
+    }
+    if let Ok(shelved) = paper::shelve(&trial.stream) {
+        if let Some(fault) = walk::fault(&shelved) {
+            let faulty = |trial: &StreamTrial| {
+                paper::shelve(&trial.stream).is_ok_and(|shelved| walk::fault(&shelved).is_some())
+            };
+            return Err(format!("{kind}: {fault}\n{}", show_stream(trial, faulty)));
+        }
+        let figures = shelved.packing.counts.iter().map(|(walk, _)| walk.figure);
+        tally.counts.add(shelved.packing.opening.stock, figures);
     }
     match worst_excess(&trial, &outcome, tally) {
         Some(worst) if worst > 15 => {
@@ -192,6 +249,29 @@ fn worst_excess(trial: &StreamTrial, outcome: &Outcome, tally: &mut Tally) -> Op
     }
     tally.worst = tally.worst.max(worst);
     Some(worst)
+}
+
+/// Compares the walk after each stream that is chosen for it with what the
+/// program prints; says how many there were.
+fn try_walks(settings: &Settings, program: &Program) -> Result<String, Failure> {
+    let mut compared = 0;
+    let mut found = Found::default();
+    for index in 0..settings.streams {
+        let trial = settings.stream(index);
+        if trial.kind != COUNTS && index % WALKED != 0 {
+            continue;
+        }
+        if program.differs(&trial.stream).map_err(Failure::Program)? {
+            let (kind, shown) = (trial.kind, show_walk(trial, program));
+            let difference = format!("walk after stream trial {index}, {kind}\n{shown}");
+            return Err(Failure::Difference(difference));
+        }
+        compared += 1;
+        if let Ok(Shelved { packing, walk, .. }) = paper::shelve(&trial.stream) {
+            found.add(packing.opening.stock, std::iter::once(walk.figure));
+        }
+    }
+    Ok(format!("{compared} random streams, of these {found}"))
 }
 
 /// Whether the plan passed, by the library's own answer.

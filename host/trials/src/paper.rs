@@ -45,9 +45,20 @@ impl Bin {
     }
 }
 
+/// What a walk over the places of the stock hands back.
+#[derive(Debug, Clone, Copy, PartialEq, Eq)]
+pub struct Walk {
+    /// The opened bins that it met: the figure that a count shows.
+    pub figure: usize,
+    /// The places that it read.
+    pub places: usize,
+}
+
 pub struct Packing {
     pub opening: Opening,
     pub bins: Vec<Bin>,
+    /// The walk of each count, beside the number of bins at that time.
+    pub counts: Vec<(Walk, usize)>,
     b2_accepted: usize,
     accepted: usize,
 }
@@ -57,6 +68,7 @@ impl Packing {
         Self {
             opening,
             bins: Vec::new(),
+            counts: Vec::new(),
             b2_accepted: 0,
             accepted: 0,
         }
@@ -109,10 +121,31 @@ impl Packing {
         u64::from(self.opening.capacity) - bin.load()
     }
 
+    /// Counts the opened bins: reads one place of the stock after another, from
+    /// the first, and stops at the first whose bin is not yet opened.
+    fn walk(&self) -> Walk {
+        let mut walk = Walk {
+            figure: 0,
+            places: 0,
+        };
+        for place in 0..self.opening.stock.into() {
+            walk.places += 1;
+            match self.bins.get(place) {
+                Some(_) => walk.figure += 1,
+                None => break,
+            }
+        }
+        walk
+    }
+
     /// Does what a command asks; its word in each row.
     fn answer(&mut self, command: Command) -> (u16, u32) {
         match command {
-            Command::Count => (self.bins.len() as u16, 0),
+            Command::Count => {
+                let walk = self.walk();
+                self.counts.push((walk, self.bins.len()));
+                (walk.figure as u16, 0)
+            }
             Command::Shelve(size) => match self.place(size.into()) {
                 Ok(bin) => (bin as u16, self.free_units(&self.bins[bin - 1]) as u32),
                 Err(number) => (refused_word(number), 0),
@@ -122,10 +155,11 @@ impl Packing {
 }
 
 /// What is made of a stream without a fault: each command's word in each row,
-/// and the packing that it leaves.
+/// the packing that it leaves, and a walk over that after the last command.
 pub struct Shelved {
     answers: Vec<(u16, u32)>,
     pub packing: Packing,
+    pub walk: Walk,
 }
 
 /// Shelves a stream, whatever rows are lent with it: any refusal but 7.
@@ -135,6 +169,7 @@ pub fn shelve(stream: &[u8]) -> Result<Shelved, Refusal> {
     let answers = commands.into_iter().map(|command| packing.answer(command));
     Ok(Shelved {
         answers: answers.collect(),
+        walk: packing.walk(),
         packing,
     })
 }
@@ -147,7 +182,10 @@ pub fn answer(
     words: &mut [u16],
     free: &mut [u32],
 ) -> Result<Totals, Refusal> {
-    let Shelved { answers, packing } = shelved.as_ref().map_err(|refusal| *refusal)?;
+    let shelved = shelved.as_ref().map_err(|refusal| *refusal)?;
+    let Shelved {
+        answers, packing, ..
+    } = shelved;
     if words.len() < answers.len() || free.len() < answers.len() {
         return refuse(7, stream.len());
     }

@@ -6,6 +6,7 @@ use crate::compare::{by_library, by_paper, plan_by_library, verdict};
 use crate::plans::PlanTrial;
 use crate::rows::{self, Lent};
 use crate::streams::StreamTrial;
+use crate::walk::{self, Program};
 use crate::wire::{self, opening, Command, Opening, Part, LEAST_M};
 use crate::written;
 
@@ -163,10 +164,6 @@ fn smaller_plans(trial: &PlanTrial) -> Box<dyn Iterator<Item = PlanTrial> + '_> 
 pub fn show_stream(trial: StreamTrial, fails: impl Fn(&StreamTrial) -> bool) -> String {
     let trial = shrink(trial, smaller_streams, fails);
     let (paper, library) = (by_paper(&trial), by_library(&trial));
-    let hex: Vec<String> = parts(&trial)
-        .iter()
-        .map(|part| hex(&part.bytes()))
-        .collect();
     format!(
         "stream, {} bytes, lent {} words of answers and {} of free units:\n  {}\n\
          paper:   {paper}\nlibrary: {library}\n\
@@ -174,9 +171,26 @@ pub fn show_stream(trial: StreamTrial, fails: impl Fn(&StreamTrial) -> bool) -> 
         trial.stream.len(),
         trial.lent.answers,
         trial.lent.free,
-        hex.join(" "),
+        commands_in_hex(&trial),
         rows::difference(&paper.rows, &library.rows),
         written::difference(&paper.sheet, &library.sheet),
+    )
+}
+
+/// Shrinks a stream of which the program prints another walk than the paper's
+/// and shows it with both.
+pub fn show_walk(trial: StreamTrial, program: &Program) -> String {
+    // No row is lent to the program, so none is to be made shorter.
+    let lent = Lent::both(0);
+    // What is smaller but makes the program fail shows no difference.
+    let differs = |trial: &StreamTrial| program.differs(&trial.stream) == Ok(true);
+    let trial = shrink(StreamTrial { lent, ..trial }, smaller_streams, differs);
+    let printed = program.prints(&trial.stream).unwrap_or_else(|why| why);
+    format!(
+        "stream, {} bytes:\n  {}\npaper:   {:?}\nprogram: {printed:?}",
+        trial.stream.len(),
+        commands_in_hex(&trial),
+        walk::by_paper(&trial.stream),
     )
 }
 
@@ -196,6 +210,11 @@ pub fn show_plan(trial: PlanTrial, fails: impl Fn(&PlanTrial) -> bool) -> String
         trial.items,
         verdict(trial.by_paper()),
     )
+}
+
+fn commands_in_hex(trial: &StreamTrial) -> String {
+    let commands: Vec<String> = parts(trial).iter().map(|part| hex(&part.bytes())).collect();
+    commands.join(" ")
 }
 
 fn hex(bytes: &[u8]) -> String {

@@ -1,11 +1,14 @@
 //! Random stream trials: streams as they are, and damaged ones.
 
-use crate::lists::{b2_run, family, list, long, random_opening, short_list};
+use crate::lists::{b2_run, counted, family, list, long, random_opening, short_list};
 use crate::rng::Rng;
 use crate::rows::Lent;
 use crate::wire::{
     Command, LEAST_M, MOST_CAPACITY, MOST_COMMANDS, MOST_M, MOST_PRINTED, MOST_STOCK,
 };
+
+/// The kind of the streams that are made for counting.
+pub const COUNTS: &str = "counts";
 
 /// A stream and the rows lent with it.
 #[derive(Clone)]
@@ -29,6 +32,7 @@ pub fn random(rng: &mut Rng) -> StreamTrial {
         72..=75 => ("opening", damaged_opening(rng)),
         76..=78 => ("at the limit of commands", around_the_limit(rng)),
         79 => ("at the limit of bytes", vec![around_the_longest(rng)]),
+        80..=84 => (COUNTS, counted(rng).pieces()),
         _ => ("damaged", damaged(rng)),
     };
     let after = pieces.len().saturating_sub(1);
