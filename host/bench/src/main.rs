@@ -109,7 +109,7 @@ fn run(engine: Engine, stream: &[u8], (answers, free): &mut (Vec<u16>, Vec<u32>)
 fn compare(streams: u64) {
     println!("ns for a stream of 4096 commands, median of {ROUNDS} rounds");
     println!(
-        "{:<10}{:>10}{:>10}{:>10}{:>16}{:>16}",
+        "{:<12}{:>10}{:>10}{:>10}{:>16}{:>16}",
         "mix", "library", "tree", "scan", "library/tree", "by the least"
     );
     for mix in &MIXES {
@@ -123,7 +123,7 @@ fn compare(streams: u64) {
         let by_the_least = least(&times[0]) / least(&times[1]);
         let [library, tree, scan] = times.map(median);
         println!(
-            "{:<10}{library:>10.0}{tree:>10.0}{scan:>10.0}{ratio:>16.2}{by_the_least:>16.2}",
+            "{:<12}{library:>10.0}{tree:>10.0}{scan:>10.0}{ratio:>16.2}{by_the_least:>16.2}",
             mix.name
         );
     }

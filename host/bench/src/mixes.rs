@@ -8,13 +8,16 @@ pub struct Mix {
     pub name: &'static str,
     /// A size from the generator's numbers.
     size: fn(&mut Numbers) -> u32,
+    /// Whether a count follows every item, as panels send them.
+    counts: bool,
 }
 
-pub const MIXES: [Mix; 6] = [
+pub const MIXES: [Mix; 8] = [
     // Any size; the stock is soon spent, and most are refused.
     Mix {
         name: "uniform",
         size: |numbers| numbers.between(1, CAPACITY),
+        counts: false,
     },
     // Every class, and the stock suffices.
     Mix {
@@ -25,20 +28,24 @@ pub const MIXES: [Mix; 6] = [
             8..=11 => numbers.between(CAPACITY / 3 + 1, CAPACITY / 5 * 2),
             _ => numbers.between(1, CAPACITY / 12),
         },
+        counts: false,
     },
     Mix {
         name: "small-x",
         size: |numbers| numbers.between(1, CAPACITY / 64),
+        counts: false,
     },
     // X items over most of the stock.
     Mix {
         name: "mid-x",
         size: |numbers| numbers.between(CAPACITY / 16, CAPACITY / 8),
+        counts: false,
     },
     // 512 A items, then each is refused.
     Mix {
         name: "spent-a",
         size: |numbers| numbers.between(CAPACITY / 2 + 1, CAPACITY),
+        counts: false,
     },
     Mix {
         name: "b2-heavy",
@@ -47,6 +54,19 @@ pub const MIXES: [Mix; 6] = [
             8..=9 => numbers.between(CAPACITY / 2 + 1, CAPACITY / 4 * 3),
             _ => numbers.between(1, CAPACITY / 100),
         },
+        counts: false,
+    },
+    // X items over some tens of bins, so that every walk is short.
+    Mix {
+        name: "count-short",
+        size: |numbers| numbers.between(1, CAPACITY / 24),
+        counts: true,
+    },
+    // 512 A items, then each is refused, and every walk reads the whole stock.
+    Mix {
+        name: "count-full",
+        size: |numbers| numbers.between(CAPACITY / 2 + 1, CAPACITY),
+        counts: true,
     },
 ];
 
@@ -55,8 +75,12 @@ impl Mix {
     pub fn stream(&self, seed: u64) -> StreamBuilder {
         let mut numbers = Numbers(seed);
         let mut stream = StreamBuilder::open(CAPACITY, MAX_STOCK, 6);
-        for _ in 0..MAX_COMMANDS {
+        let commands_an_item = if self.counts { 2 } else { 1 };
+        for _ in 0..MAX_COMMANDS / commands_an_item {
             stream.shelve((self.size)(&mut numbers));
+            if self.counts {
+                stream.count();
+            }
         }
         stream
     }

@@ -24,6 +24,7 @@ pub fn shelve(stream: &[u8], answers: &mut [u16], free: &mut [u32]) -> u64 {
             }
             [_, ref after @ ..] => {
                 rest = after;
+                // A number that is kept: what a walk costs shows beside it.
                 (*word, *left) = (bins.len() as u16, 0);
                 continue;
             }

@@ -1,5 +1,5 @@
 //! The same algorithm by hand: tournament trees in safe Rust, and beside them a
-//! row of figures for each bin, as a vault sheet needs them.
+//! row of figures for each bin, as a vault sheet needs them and a count walks.
 
 use std::hint::black_box;
 
@@ -53,6 +53,24 @@ fn enter(rows: &mut Rows, place: usize, class: u32, free: u32, a: u32) -> u32 {
     let [_, _, held, held_a] = *row;
     *row = [class, free, held + 1, held_a + a];
     held_a + a
+}
+
+/// The walk of a count, as the library makes it: reads the rows from the first
+/// place up to one that is not opened, or to the end of the stock. The figure,
+/// and the places read.
+// Not inlined: the loop over the commands then keeps its registers.
+#[inline(never)]
+fn walk(rows: &Rows, stock: usize) -> (u32, u32) {
+    let mut figure = 0;
+    let mut places = 0;
+    for [class, ..] in &rows[..stock] {
+        places += 1;
+        if *class == 0 {
+            break;
+        }
+        figure += 1;
+    }
+    (figure, places)
 }
 
 /// Shows the free space of a bin of class 1 in the tree of its class, and in
@@ -151,7 +169,9 @@ fn shelve_and_enter(
             }
             [_, ref after @ ..] => {
                 rest = after;
-                (*word, *left) = (opened as u16, 0);
+                // No answer has the places read, in the library neither.
+                let (figure, _) = walk(rows, stock);
+                (*word, *left) = (figure as u16, 0);
                 continue;
             }
             [] => break,
@@ -216,17 +236,22 @@ fn shelve_and_enter(
 #[cfg(test)]
 mod tests {
     use super::*;
-    use crate::mixes::MIXES;
-    use shelf::{Answer, Command, Opening};
+    use crate::mixes::{Mix, MIXES};
+    use shelf::{Answer, Command, Opening, StreamBuilder};
+
+    /// A stream of the mix, its answers and its rows.
+    fn shelved(mix: &Mix) -> (StreamBuilder, Vec<u16>, Vec<u32>, Rows) {
+        let stream = mix.stream(1);
+        let (mut words, mut free) = stream.rows();
+        let mut rows = [[0; 4]; MAX_LEAVES];
+        shelve_and_enter(stream.bytes(), &mut words, &mut free, &mut rows);
+        (stream, words, free, rows)
+    }
 
     #[test]
     fn the_rows_are_those_of_the_sheet() {
         for mix in &MIXES {
-            let stream = mix.stream(1);
-            let (mut words, mut free) = stream.rows();
-            let mut rows = [[0; 4]; MAX_LEAVES];
-            shelve_and_enter(stream.bytes(), &mut words, &mut free, &mut rows);
-
+            let (stream, words, free, rows) = shelved(mix);
             let capacity = Opening::read(stream.bytes()).unwrap().capacity;
             let mut expected = [[0; 4]; MAX_LEAVES];
             for (expected, row) in expected.iter_mut().zip(shelf::sheet(stream.bytes()).rows()) {
@@ -238,6 +263,28 @@ mod tests {
                 }
             }
             assert_eq!(rows, expected, "{}", mix.name);
+        }
+    }
+
+    #[test]
+    fn the_walk_is_that_of_the_request() {
+        for mix in &MIXES {
+            let (stream, words, free, rows) = shelved(mix);
+            let mut bins = 0;
+            for (_, answer) in shelf::answers(stream.bytes(), &words, &free) {
+                match answer {
+                    Answer::Placed { bin, .. } => bins = bins.max(bin),
+                    Answer::Counted { opened } => assert_eq!(opened, bins, "{}", mix.name),
+                    Answer::Refused(_) => {}
+                }
+            }
+            // The first rows are those of a smaller stock.
+            for stock in 1..=MAX_LEAVES as u32 {
+                let figure = stock.min(bins.into());
+                let expected = (figure, stock.min(figure + 1));
+                let walked = walk(&rows, stock as usize);
+                assert_eq!(walked, expected, "{}, stock {stock}", mix.name);
+            }
         }
     }
 }
