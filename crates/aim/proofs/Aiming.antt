@@ -11,9 +11,9 @@ use borrow.Author.Tests.{eq-eqb, ne-eqb}
 use Rattle.packing.specs.declared.{Opening.Opening, SizeClass.SizeClass}
 use Rattle.packing.specs.declared.SizeClass.the-variants.{A, B1, B2, X}
 use Rattle.packing.specs.Prelude.{if_then_else_}
-use Rattle.packing.specs.SizeClasses.{isA, countB2}
+use Rattle.packing.specs.SizeClasses.{isA, countB2, numberOf}
 use Rattle.packing.specs.Placing.{toClass, besideA, targetOf}
-use Rattle.aim.specs.Aims.{aim, home, treeFor, aFor, phaseAfter}
+use Rattle.aim.specs.Aims.{aim, home, treeFor, aFor, onlyA, phaseAfter}
 
 -- One more B2 ends the phase, or it is one further on.
 b2-phase : (before phase m : ℕ) → phase ≡ before % m → phase < m → suc before % m ≡ (if eqb (phase + 1) m then 0 else phase + 1)
@@ -45,6 +45,19 @@ as-for phase m B2 = go (eqb (phase + 1) m)
     go : (last : Bool) → aFor (if last then 0 else 3) ≡ 0
     go true = refl
     go false = refl
+
+-- So it is by its size class.
+pub only-a : (k : SizeClass) → numberOf onlyA k ≡ (if isA k then 1 else 0)
+only-a A = refl
+only-a B1 = refl
+only-a B2 = refl
+only-a X = refl
+
+pub only-a-few : (k : SizeClass) → numberOf onlyA k ≤ 1
+only-a-few A = omega arith
+only-a-few B1 = omega arith
+only-a-few B2 = omega arith
+only-a-few X = omega arith
 
 pub a-few : (tree : ℕ) → aFor tree ≤ 1
 a-few tree = go (eqb tree 1)

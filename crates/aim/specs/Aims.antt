@@ -1,6 +1,6 @@
--- The five trees: which bins each shows, which one is searched for an item, and what accepting an item counts.
+-- The five trees: which bins each shows, which one is searched for an item, and what is counted when an item is accepted and when one is taken out.
 use mathlib.Core.Path.{_≡_}
-use Prim.Native.Nat.{ℕ, zero, suc, _+_, _<_}
+use Prim.Native.Nat.{ℕ, zero, suc, _+_, _-_, _<_}
 use Rattle.packing.specs.declared.{SizeClass.SizeClass, PerClass.PerClass}
 use Rattle.packing.specs.SizeClasses.{numberOf}
 use Rattle.packing.specs.Prelude.{_=?_, if_then_else_}
@@ -32,6 +32,10 @@ treeFor k phase m = numberOf (treesWith (b2Tree phase m)) k
 abbrev pub aFor : (tree : ℕ) → ℕ
 aFor tree = if tree =? 1 then 1 else 0
 
+-- The same by its size class.
+abbrev pub onlyA : PerClass
+onlyA = record { a = 1; b1 = 0; b2 = 0; x = 0 }
+
 -- The phase once an item is accepted: only B2 items are searched for in the trees 0 and 3, and they count.
 abbrev pub phaseAfter : (tree phase : ℕ) → ℕ
 phaseAfter tree phase = if tree =? 0 then 0 else (if tree =? 3 then phase + 1 else phase)
@@ -42,7 +46,11 @@ accepting tree opened m c =
     let phase = phaseAfter tree (c .phase) in
     record { opened = opened; phase = phase; items = c .items + 1; b2 = b2Tree phase m }
 
--- Before that: one more item can be counted, both phases are below m, and the tree for the next B2 is that of the phase.
+-- the counters once an item is taken out: "the B2 count never goes back"
+abbrev pub withdrawing : Counters → Counters
+withdrawing c = record { opened = c .opened; phase = c .phase; items = c .items - 1; b2 = c .b2 }
+
+-- Before an item is accepted: one more can be counted, both phases are below m, and the tree for the next B2 is that of the phase.
 pub record Acceptable (tree m : ℕ) (c : Counters) : Type 0 where
   pub room : c .items < 4294967295
   pub phase : c .phase < m

@@ -21,7 +21,7 @@ fn sibling_of(n: usize) -> usize
 }
 
 // Sets a place to a value not below what it holds: the maxima above it rise to that value, as far as they are below it.
-fn raise(t: &mut [u32; ROW_WORDS], base: usize, shape: Shape, place: usize, value: u32)
+pub fn raise(t: &mut [u32; ROW_WORDS], base: usize, shape: Shape, place: usize, value: u32)
     requires tree { ⌜ Tree base shape (now t) ⌝ }
     requires inside { ⌜ place < shape .places ⌝ }
     requires rises { ⌜ getD (leaves (now t) base (shape .places)) place 0 ≤ value ⌝ }

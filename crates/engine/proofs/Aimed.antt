@@ -3,7 +3,8 @@ use mathlib.Core.Path.{_≡_, sym, ap, _∙_}
 use mathlib.Core.List.{List}
 use Prim.Native.Nat.{ℕ, _%_, _≤_, _<_}
 use Rattle.packing.specs.declared.Opening.{Opening}
-use Rattle.packing.specs.Bins.{Packing, kind}
+use Rattle.packing.specs.SizeClasses.{sizeClass}
+use Rattle.packing.specs.Bins.{Packing}
 use Rattle.packing.specs.Placing.{target, placed}
 use Rattle.packing.specs.Run.{item}
 use Rattle.aim.specs.declared.Counters.{Counters}
@@ -17,25 +18,25 @@ pub record Aimed (o : Opening) (c : Counters) (size n : ℕ) : Type 0 where
   pub some : 1 ≤ size
   pub fits : size ≤ o .capacity
   pub phase : c .phase < o .m
-  pub tree : n ≡ treeFor (kind o (item size)) (c .phase) (o .m)
+  pub tree : n ≡ treeFor (sizeClass (o .capacity) size) (c .phase) (o .m)
 
 module _ {o : Opening} {c : Counters} {size n : ℕ} (a : Aimed o c size n) where
   pub tree-few : n < 5
-  tree-few = rw (a .tree) (tree-below (c .phase) (o .m) (kind o (item size)))
+  tree-few = rw (a .tree) (tree-below (c .phase) (o .m) (sizeClass (o .capacity) size))
 
   pub home-few : home n < 5
   home-few = home-below n tree-few
 
   pub phase-few : phaseAfter n (c .phase) < o .m
-  phase-few = rw (a .tree) (phase-below (c .phase) (o .m) (kind o (item size)) (a .phase))
+  phase-few = rw (a .tree) (phase-below (c .phase) (o .m) (sizeClass (o .capacity) size) (a .phase))
 
-  pub a-more : aFor n ≡ oneA o (item size)
-  a-more = rw (a .tree) (as-for (c .phase) (o .m) (kind o (item size)))
+  pub a-more : (number : ℕ) → aFor n ≡ oneA o (item number size)
+  a-more number = rw (a .tree) (as-for (c .phase) (o .m) (sizeClass (o .capacity) size))
 
-  module _ {t : List ℕ} {ledger : List (List ℕ)} {p : Packing} (r : Represents o (store t ledger c) p) where
-    pub aimed : target o p (item size) ≡ aim n
-    aimed = aims o (p .b2s) (c .phase) (kind o (item size)) (r .b2s) (a .phase) ∙ ap aim (sym (a .tree))
+  module _ {t : List ℕ} {ledger notes : List (List ℕ)} {p : Packing} (r : Represents o (store t ledger notes c) p) (number : ℕ) where
+    pub aimed : target o p (item number size) ≡ aim n
+    aimed = aims o (p .b2s) (c .phase) (sizeClass (o .capacity) size) (r .b2s) (a .phase) ∙ ap aim (sym (a .tree))
 
-    pub phase-after : phaseAfter n (c .phase) ≡ placed o p (item size) .b2s % o .m
+    pub phase-after : phaseAfter n (c .phase) ≡ placed o p (item number size) .b2s % o .m
     unfolding placed
-    phase-after = rw (a .tree) (phases (p .b2s) (c .phase) (o .m) (kind o (item size)) (r .b2s) (a .phase))
+    phase-after = rw (a .tree) (phases (p .b2s) (c .phase) (o .m) (sizeClass (o .capacity) size) (r .b2s) (a .phase))

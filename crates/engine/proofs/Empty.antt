@@ -1,4 +1,4 @@
--- The store at the opening: rows of zeros and counters at 0 are sound and represent the empty packing.
+-- The store at the opening: rows and notes of zeros and counters at 0 are sound and represent the empty packing.
 use mathlib.Core.Path.{_≡_, refl, sym, _∙_}
 use mathlib.Core.Bool.{true}
 use mathlib.Core.List.{[]}
@@ -16,10 +16,11 @@ use Rattle.tournament.specs.Shapes.{Fitted}
 use Rattle.tournament.specs.Trees.{stride, rowWords}
 use Rattle.tournament.proofs.Leaves.{leaf-node}
 use Rattle.ledger.specs.Rows.{places, blank, rowAt}
+use Rattle.ledger.specs.Notes.{numbers, unnoted}
 use Rattle.ledger.proofs.Offering.{offers-blank}
-use Rattle.ledger.proofs.Empty.{empty-records}
+use Rattle.ledger.proofs.Empty.{empty-records, empty-held, empty-noted}
 use Rattle.index.specs.Trees.{base, Forest}
-use Rattle.engine.specs.Store.{store, Few, Represents, atOpening, EmptyStore}
+use Rattle.engine.specs.Store.{store, Represents, atOpening, EmptyStore}
 
 module _ (o : Opening) (shape : Shape) (n : ℕ) (words : n ≡ rowWords) (good : openingGood o ≡ true) (fitted : Fitted (o .stock) shape) where
   -- Every word of every tree is 0.
@@ -42,13 +43,10 @@ module _ (o : Opening) (shape : Shape) (n : ℕ) (words : n ≡ rowWords) (good 
   blank-at : (i : ℕ) → i < places → rowAt (replicate places blank) i ≡ blank
   blank-at i l = getD-replicate places i blank [] l
 
-  few-at : (i : ℕ) → i < places → Few 0 (rowAt (replicate places blank) i)
-  few-at i l = rw (blank-at i l) (record { held = omega arith; held-a = omega arith })
+  nothing : Represents o (store (replicate n 0) (replicate places blank) (replicate numbers unnoted) atOpening) empty
+  nothing = record { bins = refl; b2s = sym (zero-mod (o .m)); items = sym empty-held; records = empty-records o; noted = empty-noted }
 
-  nothing : Represents o (store (replicate n 0) (replicate places blank) atOpening) empty
-  nothing = record { bins = refl; b2s = sym (zero-mod (o .m)); records = empty-records o }
-
-  pub empty-store : EmptyStore o shape (replicate n 0) (replicate places blank)
+  pub empty-store : EmptyStore o shape (replicate n 0) (replicate places blank) (replicate numbers unnoted)
   empty-store = record {
     sound = record {
       index = record {
@@ -58,10 +56,10 @@ module _ (o : Opening) (shape : Shape) (n : ℕ) (words : n ≡ rowWords) (good 
             ∙ sym (rw (blank-at i (omega (arith, fitted .few))) (offers-blank k));
       };
       stock = fitted .enough;
+      capacity = in-limits o good .capacity .1;
       within = omega arith;
       phase = omega (arith, in-limits o good .m);
       b2 = rw (ne-eqb 1 (o .m) (λ e. omega (arith, in-limits o good .m)));
-      few = few-at;
       packing = empty;
       represents = nothing;
     };

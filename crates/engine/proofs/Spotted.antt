@@ -12,7 +12,7 @@ use borrow.Author.Tests.{le-leb, lt-leb, lt-ltb, le-ltb, leb-true, leb-false}
 use Rattle.packing.specs.declared.Opening.{Opening}
 use Rattle.packing.specs.declared.ItemReason.the-variants.{StockSpent}
 use Rattle.packing.specs.Prelude.{total}
-use Rattle.packing.specs.Bins.{Bin, Packing, opened, load}
+use Rattle.packing.specs.Bins.{Item, Bin, Packing, opened, load}
 use Rattle.packing.specs.Placing.{refusing, classOf, binFor, spent, decision}
 use Rattle.packing.specs.Run.{item}
 use Rattle.packing.proofs.Decided.{is-spent, decides}
@@ -36,15 +36,18 @@ use Rattle.engine.specs.Spots.{joined, anew, spotAt, spotFor}
 use Rattle.engine.proofs.Aimed.{Aimed, tree-few, aimed}
 
 -- A spot is the model's, for an item that is searched for in tree n.
-pub record IsSpot (o : Opening) (p : Packing) (size n : ℕ) (s : Spot) : Type 0 where
-  pub in-stock : spent o p (item size) ≡ false
-  pub place-is : s .place ≡ passed o p size
-  pub opened-is : s .opened ≡ max (opened p) (binFor o p (item size))
-  pub class-is : chosen o p size .class ≡ home n
-  pub free-is : s .free ≡ o .capacity - (size + load (chosen o p size))
+pub record IsSpot (o : Opening) (p : Packing) (number size n : ℕ) (s : Spot) : Type 0 where
+  pub in-stock : spent o p (item number size) ≡ false
+  pub place-is : s .place ≡ passed o p (item number size)
+  pub opened-is : s .opened ≡ max (opened p) (binFor o p (item number size))
+  pub class-is : chosen o p (item number size) .class ≡ home n
+  pub free-is : s .free ≡ o .capacity - (size + load (chosen o p (item number size)))
 
-module _ {o : Opening} {c : Counters} {size n : ℕ} (a : Aimed o c size n)
-    {shape : Shape} {t : List ℕ} {ledger : List (List ℕ)} (x : Indexes shape t ledger) {p : Packing} (r : Represents o (store t ledger c) p) where
+module _ {o : Opening} {c : Counters} {size n : ℕ} (a : Aimed o c size n) (number : ℕ)
+    {shape : Shape} {t : List ℕ} {ledger notes : List (List ℕ)} (x : Indexes shape t ledger) {p : Packing} (r : Represents o (store t ledger notes c) p) where
+  abbrev it : Item
+  it = item number size
+
   -- What tree n shows is what the rows offer.
   offer : (j : ℕ) → j < shape .places → shownAt t shape n j ≡ offers n (rowAt ledger j)
   offer j l = x .leaf n j (tree-few a) l
@@ -61,22 +64,22 @@ module _ {o : Opening} {c : Counters} {size n : ℕ} (a : Aimed o c size n)
     enough = rw (offer i within) at (f .enough)
 
     there : i < opened p
-    there = first-there o (r .records) n (a .some) (aimed a r) inside lower enough
+    there = first-there o (r .records) n it (a .some) (aimed a r number) inside lower enough
 
-    found-at : passed o p size ≡ i
-    found-at = first-at o (r .records) n (a .some) (aimed a r) inside lower enough
+    found-at : passed o p it ≡ i
+    found-at = first-at o (r .records) n it (a .some) (aimed a r number) inside lower enough
 
     -- The row there is that of the bin which the item goes to; it is of the group, and what is shown is its free space.
-    row-is : rowAt ledger i ≡ rowOf o (chosen o p size)
-    row-is = first-row o (r .records) n (a .some) (aimed a r) inside lower enough
+    row-is : rowAt ledger i ≡ rowOf o (chosen o p it)
+    row-is = first-row o (r .records) n it (a .some) (aimed a r number) inside lower enough
 
     grouped : inGroup n (rowAt ledger i) ≡ true
     grouped = in-group n (rowAt ledger i) (omega (arith, enough, a .some))
 
-    space : shownAt t shape n i ≡ o .capacity - load (chosen o p size)
+    space : shownAt t shape n i ≡ o .capacity - load (chosen o p it)
     space = offer i within ∙ rw grouped (ap freeIn row-is)
 
-    is-joined : IsSpot o p size n (joined o shape t (c .opened) n size i)
+    is-joined : IsSpot o p number size n (joined o shape t (c .opened) n size i)
     is-joined = record {
       in-stock = rw (found-at, le-ltb (opened p) (suc i) (omega (arith, there)));
       place-is = sym found-at;
@@ -87,54 +90,54 @@ module _ {o : Opening} {c : Counters} {size n : ℕ} (a : Aimed o c size n)
 
   -- The search found nothing.
   module _ (f : (k : ℕ) → k < shape .places → shownAt t shape n k < size) (within : c .opened ≤ shape .places) where
-    none-at : passed o p size ≡ opened p
+    none-at : passed o p it ≡ opened p
     none-at =
-        first-none o (r .records) n (a .some) (aimed a r) (omega (arith, r .bins, x .forest .few))
+        first-none o (r .records) n it (a .some) (aimed a r number) (omega (arith, r .bins, x .forest .few))
         (λ j h. let l : j < shape .places = omega (arith, r .bins) in rw (offer j l) at (f j l))
 
-    chosen-new : chosen o p size ≡ newBin o p size
-    chosen-new = rw none-at (List·getD-eq-default (p .bins) (newBin o p size) (omega arith))
+    chosen-new : chosen o p it ≡ newBin o p it
+    chosen-new = rw none-at (List·getD-eq-default (p .bins) (newBin o p it) (omega arith))
 
-    is-anew : c .opened < o .stock → IsSpot o p size n (anew o shape t (c .opened) n size)
+    is-anew : c .opened < o .stock → IsSpot o p number size n (anew o shape t (c .opened) n size)
     unfolding total
     is-anew l = record {
       in-stock = rw (none-at, lt-leb (o .stock) (opened p) (omega (arith, r .bins)), and-false);
       place-is = r .bins ∙ sym none-at;
       opened-is = omega (arith, r .bins, none-at);
-      class-is = ap (λ (b : Bin). b .class) chosen-new ∙ ap classOf (aimed a r);
+      class-is = ap (λ (b : Bin). b .class) chosen-new ∙ ap classOf (aimed a r number);
       free-is = rw chosen-new (omega arith);
     }
 
-    spends : o .stock ≤ c .opened → decision o p (item size) ≡ refusing StockSpent
+    spends : o .stock ≤ c .opened → decision o p it ≡ refusing StockSpent
     spends l =
-        let none : spent o p (item size) ≡ true =
+        let none : spent o p it ≡ true =
         rw (none-at, lt-ltb (opened p) (suc (opened p)) (omega arith), le-leb (o .stock) (opened p) (omega (arith, r .bins))) in
-        decides o p (item size) (refusing StockSpent) (is-spent (a .some) (a .fits) none)
+        decides o p it (refusing StockSpent) (is-spent (a .some) (a .fits) none)
 
 -- What the search says of an item, by what it has for it.
-pub record Spotted (o : Opening) (shape : Shape) (w : Store) (size n : ℕ) (s : Spot) : Type 0 where
+pub record Spotted (o : Opening) (shape : Shape) (w : Store) (number size n : ℕ) (s : Spot) : Type 0 where
   pub inside : s .place < shape .places
   pub stock : s .opened ≤ o .stock
-  pub model : (p : Packing) → Represents o w p → IsSpot o p size n s
+  pub model : (p : Packing) → Represents o w p → IsSpot o p number size n s
 
-abbrev pub Says : Opening → Shape → Store → (size n : ℕ) → Offer → Type 0
-Says o shape w size n (Here s) = Spotted o shape w size n s
-Says o shape w size n Spent = (p : Packing) → Represents o w p → decision o p (item size) ≡ refusing StockSpent
+abbrev pub Says : Opening → Shape → Store → (number size n : ℕ) → Offer → Type 0
+Says o shape w number size n (Here s) = Spotted o shape w number size n s
+Says o shape w number size n Spent = (p : Packing) → Represents o w p → decision o p (item number size) ≡ refusing StockSpent
 
-pub says : {o : Opening} {c : Counters} {size n : ℕ} → Aimed o c size n → {shape : Shape} {t : List ℕ} {ledger : List (List ℕ)} → Sound o shape (store t ledger c)
-    → Says o shape (store t ledger c) size n (spotFor o shape t (c .opened) n size)
-says {o} {c} {size} {n} a {shape} {t} {ledger} sound = go (lowestFit size (shownBy t shape n)) (meaning size (shownBy t shape n))
+pub says : {o : Opening} {c : Counters} {size n : ℕ} → Aimed o c size n → (number : ℕ) {shape : Shape} {t : List ℕ} {ledger notes : List (List ℕ)}
+    → Sound o shape (store t ledger notes c) → Says o shape (store t ledger notes c) number size n (spotFor o shape t (c .opened) n size)
+says {o} {c} {size} {n} a number {shape} {t} {ledger} {notes} sound = go (lowestFit size (shownBy t shape n)) (meaning size (shownBy t shape n))
   where
-    go : (f : Found) → Meaning size (shownBy t shape n) f → Says o shape (store t ledger c) size n (spotAt o shape t (c .opened) n size f)
+    go : (f : Found) → Meaning size (shownBy t shape n) f → Says o shape (store t ledger notes c) number size n (spotAt o shape t (c .opened) n size f)
     go (At i) f =
         let within : i < shape .places = omega (arith, f .inside, leaf-count (sound .index .forest) n (tree-few a)) in
-        record { inside = within; stock = sound .within; model = λ p r. is-joined a (sound .index) r f within }
+        record { inside = within; stock = sound .within; model = λ p r. is-joined a number (sound .index) r f within }
     go Nothing f =
         let all : length (shownBy t shape n) ≡ shape .places = leaf-count (sound .index .forest) n (tree-few a) in
         let none : (k : ℕ) → k < shape .places → shownAt t shape n k < size = λ k l. f k (omega arith) in
         let few : c .opened ≤ shape .places = omega (arith, sound .within, sound .stock) in
         ⊎-elim
         (λ q. let l : c .opened < o .stock = leb-false (o .stock) (c .opened) q in
-        rw q (record { inside = omega (arith, sound .stock); stock = omega arith; model = λ p r. is-anew a (sound .index) r none few l }))
-        (λ q. rw q (λ p r. spends a (sound .index) r none few (leb-true (o .stock) (c .opened) q)))
+        rw q (record { inside = omega (arith, sound .stock); stock = omega arith; model = λ p r. is-anew a number (sound .index) r none few l }))
+        (λ q. rw q (λ p r. spends a number (sound .index) r none few (leb-true (o .stock) (c .opened) q)))
         (dichotomy (leb (o .stock) (c .opened)))

@@ -1,17 +1,16 @@
 -- What a step promises: at every packing that the store represents, the model's answer and the model's next packing.
 use mathlib.Core.Path.{_≡_}
-use Prim.Native.Nat.{ℕ, _+_}
-use lib.ListN.{length}
+use Prim.Native.Nat.{ℕ}
 use Rattle.packing.specs.declared.{Opening.Opening, Command.Command, Outcome.Outcome, Answer.Answer, ItemReason.ItemReason}
 use Rattle.packing.specs.declared.Outcome.the-variants.{Refused}
 use Rattle.packing.specs.Bins.{Packing}
-use Rattle.packing.specs.Run.{answerTo, next, placement}
+use Rattle.packing.specs.Run.{answerTo, next}
 use Rattle.tournament.specs.declared.Shape.{Shape}
 use Rattle.aim.specs.declared.Counters.{Counters}
 use Rattle.engine.specs.declared.Answered.{Answered}
-use Rattle.engine.specs.Store.{Store, store, Sound, Represents}
+use Rattle.engine.specs.Store.{Store, Sound, Represents}
 
--- "An answer joins the command's number with placed, counted or refused."
+-- "An answer joins the command's number with placed, counted or refused", or withdrawn.
 abbrev pub answering : ℕ → Outcome → Answer
 answering number a = record { number = number; outcome = a }
 
@@ -19,16 +18,14 @@ answering number a = record { number = number; outcome = a }
 abbrev pub giving : ℕ → Outcome → Counters → Answered
 giving number a c = record { answer = answering number a; next = c }
 
-pub record Modelled (o : Opening) (command : Command) (a : Outcome) (u : Store) (p : Packing) : Type 0 where
-  pub answered : a ≡ answerTo o p command
-  pub represents : Represents o u (next o p command)
+pub record Modelled (o : Opening) (number : ℕ) (command : Command) (a : Outcome) (u : Store) (p : Packing) : Type 0 where
+  pub answered : a ≡ answerTo o p number command
+  pub represents : Represents o u (next o p number command)
 
 -- From the store s, the command of this number is answered so and leaves the store u.
 pub record Done (o : Opening) (shape : Shape) (s : Store) (number : ℕ) (command : Command) (r : Answer) (u : Store) : Type 0 where
   pub sound : Sound o shape u
   pub numbered : r .number ≡ number
-  pub model : (p : Packing) → Represents o s p → Modelled o command (r .outcome) u p
-  -- One more item for each that is placed.
-  pub items : u .counters .items ≡ s .counters .items + length (placement command (r .outcome))
-  -- A refused item leaves every word as it was.
+  pub model : (p : Packing) → Represents o s p → Modelled o number command (r .outcome) u p
+  -- A refused command leaves every word as it was.
   pub refused : (reason : ItemReason) → r .outcome ≡ Refused reason → u ≡ s

@@ -1,10 +1,11 @@
-// The engine: the step that answers a command. It finds a bin by the trees, enters the item in the ledger, and shows the bin's row of the ledger in
-// the trees, which are an index over it. Trees and ledger are lent by the caller; what is small goes by value.
+// The engine: the placing step. It finds a bin by the trees, enters the item in the ledger, notes where it lies, and shows the bin's row of the ledger
+// in the trees, which are an index over it. Trees, ledger and notes are lent by the caller; what is small goes by value.
 use aim::Counters;
 use ledger::BINS;
 use ledger::COLUMNS;
+use ledger::NOTE_WORDS;
+use ledger::NUMBERS;
 use packing::Answer;
-use packing::Command;
 use packing::ItemReason;
 use packing::Opening;
 use packing::Outcome;
@@ -85,8 +86,8 @@ fn find_spot(
     }
 }
 
-// "An answer joins the command's number with placed, counted or refused." A refused item leaves the counters as they were.
-fn refuse(number: usize, reason: ItemReason, counters: Counters) -> Answered
+// "An answer joins the command's number with placed, counted or refused." A refused command leaves the counters as they were.
+pub fn refuse(number: usize, reason: ItemReason, counters: Counters) -> Answered
     ensures { λ r. ⌜ r ≡ giving number (Refused reason) counters ⌝ }
 {
     let answer = Answer {
@@ -101,16 +102,17 @@ fn refuse(number: usize, reason: ItemReason, counters: Counters) -> Answered
 fn place_fitting(
     trees: &mut [u32; ROW_WORDS],
     ledger: &mut [[u32; COLUMNS]; BINS],
+    notes: &mut [[u32; NOTE_WORDS]; NUMBERS],
     shape: Shape,
     counters: Counters,
     opening: Opening,
     number: usize,
     size: u32,
 ) -> Answered
-    requires ready { ⌜ Ready opening shape (store (now trees) (now ledger) counters) ⌝ }
+    requires ready { ⌜ Ready opening shape number (store (now trees) (now ledger) (now notes) counters) ⌝ }
     requires some { ⌜ 1 ≤ size ⌝ }
     requires fits { ⌜ size ≤ opening .capacity ⌝ }
-    ensures { λ r. ⌜ Done opening shape (store (now (trees .entry)) (now (ledger .entry)) counters) number (Shelve size) (r .answer) (store (now (trees .exit)) (now (ledger .exit)) (r .next)) ⌝ }
+    ensures { λ r. ⌜ Done opening shape (store (now (trees .entry)) (now (ledger .entry)) (now (notes .entry)) counters) number (Shelve size) (r .answer) (store (now (trees .exit)) (now (ledger .exit)) (now (notes .exit)) (r .next)) ⌝ }
 {
     let tree = aim::tree_for(size, opening.capacity, counters.b2);
     let offer = find_spot(trees, shape, counters.opened, opening, tree, size);
@@ -128,6 +130,9 @@ fn place_fitting(
         outcome: Outcome::Placed { bin, free },
     };
     let row = ledger::enter(ledger, place, class, free, a);
+    let lies = bin as u32;
+    let note = [lies, size];
+    notes[number] = note;
     // Last: how far a store climbs is not foreseen by the processor, and nothing but the next command is to wait for it.
     index::show(trees, shape, place, row);
     Answered { answer, next }
@@ -138,51 +143,21 @@ fn place_fitting(
 pub fn place(
     trees: &mut [u32; ROW_WORDS],
     ledger: &mut [[u32; COLUMNS]; BINS],
+    notes: &mut [[u32; NOTE_WORDS]; NUMBERS],
     shape: Shape,
     counters: Counters,
     opening: Opening,
     number: usize,
     size: u32,
 ) -> Answered
-    requires { ⌜ Ready opening shape (store (now trees) (now ledger) counters) ⌝ }
-    ensures { λ r. ⌜ Done opening shape (store (now (trees .entry)) (now (ledger .entry)) counters) number (Shelve size) (r .answer) (store (now (trees .exit)) (now (ledger .exit)) (r .next)) ⌝ }
+    requires { ⌜ Ready opening shape number (store (now trees) (now ledger) (now notes) counters) ⌝ }
+    ensures { λ r. ⌜ Done opening shape (store (now (trees .entry)) (now (ledger .entry)) (now (notes .entry)) counters) number (Shelve size) (r .answer) (store (now (trees .exit)) (now (ledger .exit)) (now (notes .exit)) (r .next)) ⌝ }
 {
     if limits::is_within(1, opening.capacity, size) {
-        return place_fitting(trees, ledger, shape, counters, opening, number, size);
+        return place_fitting(trees, ledger, notes, shape, counters, opening, number, size);
     }
     if size == 0 {
         return refuse(number, ItemReason::SizeZero, counters);
     }
     refuse(number, ItemReason::AboveCapacity, counters)
-}
-
-// Answers a command after the opening. How many bins are opened is told by a walk over the ledger, of which the answer has the figure and not the places
-// read.
-pub fn answer(
-    trees: &mut [u32; ROW_WORDS],
-    ledger: &mut [[u32; COLUMNS]; BINS],
-    shape: Shape,
-    counters: Counters,
-    opening: Opening,
-    number: usize,
-    command: Command,
-) -> Answered
-    requires { ⌜ Ready opening shape (store (now trees) (now ledger) counters) ⌝ }
-    ensures { λ r. ⌜ Done opening shape (store (now (trees .entry)) (now (ledger .entry)) counters) number command (r .answer) (store (now (trees .exit)) (now (ledger .exit)) (r .next)) ⌝ }
-{
-    match command {
-        Command::Shelve(size) => place(trees, ledger, shape, counters, opening, number, size),
-        Command::Count => {
-            let tally = ledger::count(ledger, opening.stock);
-            let figure = tally.figure;
-            let answer = Answer {
-                number,
-                outcome: Outcome::Counted(figure),
-            };
-            Answered {
-                answer,
-                next: counters,
-            }
-        }
-    }
 }

@@ -4,13 +4,13 @@ use packing::StreamReason;
 use packing::Width;
 use packing::WidthRow;
 ghost use mathlib.Core.Path.{_≡_};
-ghost use Prim.Native.Nat.{_≤_};
+ghost use Prim.Native.Nat.{_+_, _≤_};
 ghost use lib.ListN.{length, drop};
 ghost use Rattle.packing.specs.Streams.{widths, lookup, commandOf, whole, frontOf, WholeFront};
 ghost use Rattle.fronts.specs.Fronts.{tableWidth, InStream, Operand, means};
 
 // "One table gives each command byte its operand width."
-const ROWS: usize = 3;
+const ROWS: usize = 4;
 
 const WIDTHS: [WidthRow; ROWS] = [
     WidthRow {
@@ -24,6 +24,10 @@ const WIDTHS: [WidthRow; ROWS] = [
     WidthRow {
         opcode: 3,
         width: 0,
+    },
+    WidthRow {
+        opcode: 4,
+        width: 2,
     },
 ];
 
@@ -83,12 +87,16 @@ pub fn operand(s: &[u8], at: usize, width: usize) -> u32
 
 // The command of an opcode that is in the table and is no opening, whole with its operands.
 fn command_of(opcode: u8, rest: &[u8]) -> Command
-    requires { ⌜ (opcode ≡ 2 → 5 ≤ length (now rest)) ⌝ }
+    requires { ⌜ tableWidth opcode + 1 ≤ length (now rest) ⌝ }
     ensures { λ r. ⌜ r ≡ commandOf opcode (drop 1 (now (rest .entry))) ⌝ }
 {
     if opcode == 2 {
         let size = operand(rest, 1, 4);
         return Command::Shelve(size);
+    }
+    if opcode == 4 {
+        let named = operand(rest, 1, 2);
+        return Command::Withdraw(named);
     }
     Command::Count
 }

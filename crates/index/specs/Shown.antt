@@ -6,7 +6,7 @@ use Prim.Native.Nat.{ℕ, _≤_, _<_}
 use Rattle.packing.specs.Prelude.{_=?_, if_then_else_}
 use Rattle.tournament.specs.declared.Shape.{Shape}
 use Rattle.aim.specs.Aims.{home}
-use Rattle.ledger.specs.Rows.{classIn}
+use Rattle.ledger.specs.Rows.{classIn, freeIn}
 use Rattle.ledger.specs.Offers.{offers}
 use Rattle.index.specs.Trees.{shownAt, Forest}
 
@@ -16,6 +16,11 @@ pub record Showable (shape : Shape) (trees : List ℕ) (place : ℕ) (row : List
   pub inside : place < shape .places
   pub classed : 1 ≤ classIn row
   pub class-few : classIn row < 5
+
+-- Besides, the tree of its class shows no more than its free space.
+pub record Freed (shape : Shape) (trees : List ℕ) (place : ℕ) (row : List ℕ) : Type 0 where
+  pub showable : Showable shape trees place row
+  pub rises : shownAt trees shape (classIn row) place ≤ freeIn row
 
 pub record Shown (shape : Shape) (t : List ℕ) (place : ℕ) (row : List ℕ) (u : List ℕ) : Type 0 where
   pub forest : Forest shape u

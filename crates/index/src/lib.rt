@@ -10,7 +10,7 @@ use tournament::Shape;
 ghost use mathlib.Core.Path.{_≡_};
 ghost use Rattle.ledger.specs.Rows.{classIn};
 ghost use Rattle.ledger.specs.Offers.{offers};
-ghost use Rattle.index.specs.Shown.{Showable, Shown};
+ghost use Rattle.index.specs.Shown.{Showable, Freed, Shown};
 
 // What a bin of class 1 offers beside an A: its free space, if it holds one.
 fn beside_a(row: [u32; COLUMNS]) -> u32
@@ -32,5 +32,20 @@ pub fn show(trees: &mut [u32; ROW_WORDS], shape: Shape, place: usize, row: [u32;
     if class == 1 {
         let beside = beside_a(row);
         climb::store(trees, 0, shape, place, beside);
+    }
+}
+
+// The same for a row whose bin an item has left: its free space has grown, so its place rises in the tree of its class.
+pub fn show_freed(trees: &mut [u32; ROW_WORDS], shape: Shape, place: usize, row: [u32; COLUMNS])
+    requires { ⌜ Freed shape (now trees) place row ⌝ }
+    ensures { λ _. ⌜ Shown shape (now (trees .entry)) place row (now (trees .exit)) ⌝ }
+{
+    let home = row[CLASS] as usize;
+    let freed = row[FREE];
+    let base = STRIDE * home;
+    climb::raise(trees, base, shape, place, freed);
+    if home == 1 {
+        let left = beside_a(row);
+        climb::store(trees, 0, shape, place, left);
     }
 }

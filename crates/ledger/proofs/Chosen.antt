@@ -12,18 +12,17 @@ use Rattle.packing.specs.declared.Opening.{Opening}
 use Rattle.packing.specs.Prelude.{if_then_else_, total, keep}
 use Rattle.packing.specs.Bins.{Item, Bin, Packing, load, freeOn, add}
 use Rattle.packing.specs.Placing.{classOf, firstFit, put, target, takes, binFor, placed}
-use Rattle.packing.specs.Run.{item}
 use Rattle.packing.proofs.Putting.{fresh}
 use Rattle.ledger.specs.Rows.{blank, classIn, heldIn, heldAIn}
 use Rattle.ledger.specs.Records.{heldA, rowOf}
 
 -- The bin that would be opened for an item, how many bins first fit passes, and the bin that the item then goes to.
-module _ (o : Opening) (p : Packing) (size : ℕ) where
+module _ (o : Opening) (p : Packing) (i : Item) where
   abbrev pub newBin : Bin
-  newBin = fresh (classOf (target o p (item size)))
+  newBin = fresh (classOf (target o p i))
 
   abbrev pub passed : ℕ
-  passed = firstFit (takes o p (item size)) (p .bins)
+  passed = firstFit (takes o p i) (p .bins)
 
   abbrev pub chosen : Bin
   chosen = getD (p .bins) passed newBin
@@ -39,11 +38,9 @@ put-at f none takes new i (b ∷ bs) (suc j) =
     ⊎-elim (λ e. rw e (rw (eqb·suc-suc j (firstFit takes bs)) (put-at f none takes new i bs j))) (λ e. rw e (rw (eqb·suc-zero j))) (dichotomy (takes b))
 
 -- What the item leaves free on its bin.
-pub free-left : (o : Opening) (p : Packing) (size : ℕ)
-    → freeOn o (binFor o p (item size)) (placed o p (item size)) ≡ o .capacity - (size + load (chosen o p size))
+pub free-left : (o : Opening) (p : Packing) (i : Item) → freeOn o (binFor o p i) (placed o p i) ≡ o .capacity - (i .size + load (chosen o p i))
 unfolding placed total
-free-left o p size =
-    rw (put-at (λ b. b .items) [] (takes o p (item size)) (newBin o p size) (item size) (p .bins) (passed o p size), eq-eqb (passed o p size) (passed o p size) refl)
+free-left o p i = rw (put-at (λ b. b .items) [] (takes o p i) (newBin o p i) i (p .bins) (passed o p i), eq-eqb (passed o p i) (passed o p i) refl)
 
 -- A row before an item goes to a bin: the bin's own, or that of no bin, where the bin is new and empty.
 pub record Before (o : Opening) (row : List ℕ) (b : Bin) : Type 0 where

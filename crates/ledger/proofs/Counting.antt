@@ -90,7 +90,7 @@ module _ {o : Opening} {p : Packing} {ledger : List (List ℕ)} {stock : ℕ} (c
       class-at can i here ∙ ap classIn (k .row i (omega (arith, can .few))) ∙ place-shows o stock (p .bins) i here)
 
   walk-of-bins : opened p ≤ stock → walk (classes stock ledger) ≡ record { figure = opened p; read = min stock (opened p + 1) }
-  walk-of-bins within = rw shows (walk-finds stock (p .bins) (k .classed) within)
+  walk-of-bins within = rw shows (walk-finds stock (p .bins) (λ b m. k .sound b m .from-class-1) within)
 
 pub tally : {ledger : List (List ℕ)} {stock : ℕ} {r : Tally} → Countable ledger stock → r ≡ walk (classes stock ledger) → Tallied ledger stock r
 tally can e = record { walked = e; model = λ o p k within. e ∙ walk-of-bins can k within }

@@ -2,7 +2,7 @@
 use mathlib.Core.Path.{_≡_, sym, ap, _∙_}
 use mathlib.Core.Bool.{Bool, true, false}
 use mathlib.Core.List.{List, [], _∷_}
-use Prim.Native.Nat.{ℕ, _+_, _-_, _<_}
+use Prim.Native.Nat.{ℕ, _+_, _-_, _≤_, _<_}
 use native.Mathlib.Decide.{ℕ-discrete}
 use native.Mathlib.Omega.{arith}
 use lib.ListN.{length, set, length-set}
@@ -14,8 +14,7 @@ use Rattle.packing.specs.Prelude.{if_then_else_, total, keep}
 use Rattle.packing.specs.SizeClasses.{isA}
 use Rattle.packing.specs.Bins.{Item, Bin, Packing, load, add, kind}
 use Rattle.packing.specs.Placing.{classOf, target, takes, placed}
-use Rattle.packing.specs.Run.{item}
-use Rattle.packing.proofs.Counting.{classed-placed}
+use Rattle.packing.proofs.Reached.{sound-placed}
 use Rattle.ledger.specs.Rows.{places, blank, rowAt, heldIn, heldAIn}
 use Rattle.ledger.specs.Records.{heldA, rowOf, rowFor, Records}
 use Rattle.ledger.specs.Entering.{Entered}
@@ -36,45 +35,42 @@ held-a-more o i b = go (isA (kind o i))
     go true = omega arith
     go false = omega arith
 
-four : {a a′ b b′ c c′ d d′ : ℕ} → a ≡ a′ → b ≡ b′ → c ≡ c′ → d ≡ d′ → (a ∷ b ∷ c ∷ d ∷ []) ≡ (a′ ∷ b′ ∷ c′ ∷ d′ ∷ [])
+pub four : {a a′ b b′ c c′ d d′ : ℕ} → a ≡ a′ → b ≡ b′ → c ≡ c′ → d ≡ d′ → (a ∷ b ∷ c ∷ d ∷ []) ≡ (a′ ∷ b′ ∷ c′ ∷ d′ ∷ [])
 four p q r s = cc
 
 -- What is entered is what the model has of the bin that the item goes to.
-pub record IsEntry (o : Opening) (p : Packing) (size place class free a : ℕ) : Type 0 where
-  pub place-is : place ≡ passed o p size
-  pub class-is : class ≡ chosen o p size .class
-  pub free-is : free ≡ o .capacity - (size + load (chosen o p size))
-  pub a-is : a ≡ oneA o (item size)
+pub record IsEntry (o : Opening) (p : Packing) (i : Item) (place class free a : ℕ) : Type 0 where
+  pub fits : i .size ≤ o .capacity
+  pub place-is : place ≡ passed o p i
+  pub class-is : class ≡ chosen o p i .class
+  pub free-is : free ≡ o .capacity - (i .size + load (chosen o p i))
+  pub a-is : a ≡ oneA o i
 
-module _ {o : Opening} {p : Packing} {ledger : List (List ℕ)} (k : Records o ledger p) {size place class free a : ℕ} (inside : place < places)
-    (e : IsEntry o p size place class free a) where
+module _ {o : Opening} {p : Packing} {ledger : List (List ℕ)} (k : Records o ledger p) {i : Item} {place class free a : ℕ} (inside : place < places)
+    (e : IsEntry o p i place class free a) where
   -- The row before the item.
-  pub row-before : Before o (rowAt ledger place) (chosen o p size)
-  row-before = rw (k .row place inside, e .place-is) (before o (classOf (target o p (item size))) (p .bins) (passed o p size))
+  pub row-before : Before o (rowAt ledger place) (chosen o p i)
+  row-before = rw (k .row place inside, e .place-is) (before o (classOf (target o p i)) (p .bins) (passed o p i))
 
   module _ {row : List ℕ} {ledger′ : List (List ℕ)} (d : Entered ledger place class free a row ledger′) where
-    row-after : row ≡ rowOf o (add (item size) (chosen o p size))
+    row-after : row ≡ rowOf o (add i (chosen o p i))
     unfolding total
     row-after =
         let old = rowAt ledger place in
-        let held : heldIn old + 1 ≡ length (add (item size) (chosen o p size) .items) = omega (arith, row-before .held) in
-        let held-a : heldAIn old + a ≡ heldA o (add (item size) (chosen o p size)) =
-        omega (arith, row-before .held-a, e .a-is, held-a-more o (item size) (chosen o p size)) in
+        let held : heldIn old + 1 ≡ length (add i (chosen o p i) .items) = omega (arith, row-before .held) in
+        let held-a : heldAIn old + a ≡ heldA o (add i (chosen o p i)) = omega (arith, row-before .held-a, e .a-is, held-a-more o i (chosen o p i)) in
         d .row-is ∙ four (e .class-is) (e .free-is) held held-a
 
-    pub records-placed : Records o ledger′ (placed o p (item size))
+    pub records-placed : Records o ledger′ (placed o p i)
     unfolding placed
     records-placed = record {
       whole = ap length (d .ledger-is) ∙ length-set ledger place row ∙ k .whole;
-      row = λ i l. ap (λ (rows : List (List ℕ)). rowAt rows i) (d .ledger-is)
-          ∙ here i l
-          ∙ sym (put-at (rowOf o) blank (takes o p (item size)) (newBin o p size) (item size) (p .bins) i);
-      classed = classed-placed o p (item size) (k .classed);
+      row = λ j l. ap (λ (rows : List (List ℕ)). rowAt rows j) (d .ledger-is) ∙ here j l ∙ sym (put-at (rowOf o) blank (takes o p i) (newBin o p i) i (p .bins) j);
+      sound = sound-placed o p i (e .fits) (k .sound);
     }
       where
-        here : (i : ℕ) → i < places → rowAt (set ledger place row) i
-            ≡ (if eqb i (passed o p size) then rowOf o (add (item size) (chosen o p size)) else rowFor o p i)
-        here i l = elim (ℕ-discrete i place) [
-          | yes q ↦ rw (q, eq-eqb place (passed o p size) (e .place-is)) (getD-set-same ledger place row [] (omega (arith, k .whole)) ∙ row-after)
-          | no q ↦ rw (ne-eqb i (passed o p size) (λ z. q (z ∙ sym (e .place-is)))) (getD-set-other ledger place i row [] q ∙ k .row i l)
+        here : (j : ℕ) → j < places → rowAt (set ledger place row) j ≡ (if eqb j (passed o p i) then rowOf o (add i (chosen o p i)) else rowFor o p j)
+        here j l = elim (ℕ-discrete j place) [
+          | yes q ↦ rw (q, eq-eqb place (passed o p i) (e .place-is)) (getD-set-same ledger place row [] (omega (arith, k .whole)) ∙ row-after)
+          | no q ↦ rw (ne-eqb j (passed o p i) (λ z. q (z ∙ sym (e .place-is)))) (getD-set-other ledger place j row [] q ∙ k .row j l)
         ]

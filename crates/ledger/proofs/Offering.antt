@@ -11,9 +11,8 @@ use borrow.Author.Tests.{le-leb, lt-leb, lt-ltb, ne-eqb, eqb-true}
 use Rattle.packing.specs.declared.Opening.{Opening}
 use Rattle.packing.specs.Prelude.{if_then_else_, any, keep}
 use Rattle.packing.specs.SizeClasses.{isA}
-use Rattle.packing.specs.Bins.{Bin, Packing, opened, load, kind}
+use Rattle.packing.specs.Bins.{Item, Bin, Packing, opened, load, kind}
 use Rattle.packing.specs.Placing.{Target, firstFit, permitted, target, takes}
-use Rattle.packing.specs.Run.{item}
 use Rattle.packing.proofs.Tests.{both-true}
 use Rattle.aim.specs.Aims.{aim, home}
 use Rattle.ledger.specs.Rows.{places, blank, rowAt, classIn, freeIn}
@@ -30,6 +29,14 @@ pub no-offer : (n : ℕ) (row : List ℕ) → (classIn row ≡ home n → ⊥) �
 no-offer zero row z = rw (ne-eqb (classIn row) 1 z)
 no-offer (suc n) row z = rw (ne-eqb (classIn row) (suc n) z)
 
+-- No row offers more than its free space.
+pub offers-most : (n : ℕ) (row : List ℕ) → offers n row ≤ freeIn row
+offers-most n row = go (inGroup n row)
+  where
+    go : (x : Bool) → (if x then freeIn row else 0) ≤ freeIn row
+    go true = omega arith
+    go false = omega arith
+
 pub offers-blank : (n : ℕ) → offers n blank ≡ 0
 offers-blank zero = refl
 offers-blank (suc n) = no-offer (suc n) blank (λ z. omega arith)
@@ -43,7 +50,7 @@ in-group n row = go (inGroup n row)
     go false l = absurd (omega arith)
 
 -- An A is contained exactly where their number is positive.
-any-keep : {A : Type 0} (test : A → Bool) (l : List A) → any test l ≡ ltb 0 (length (keep test l))
+pub any-keep : {A : Type 0} (test : A → Bool) (l : List A) → any test l ≡ ltb 0 (length (keep test l))
 unfolding any keep
 any-keep test [] = refl
 any-keep test (a ∷ rest) = go (test a) (any-keep test rest)
@@ -67,12 +74,11 @@ module _ (o : Opening) where
   room false l s c h = sym (lt-leb s 0 h)
 
   -- A bin takes an item exactly where its row offers the item's size or more.
-  takes-offered : (p : Packing) (size n : ℕ) → 1 ≤ size → target o p (item size) ≡ aim n
-      → (b : Bin) → takes o p (item size) b ≡ leb size (offers n (rowOf o b))
-  takes-offered p size n h e b =
-      ap (λ (t : Target). permitted o t b && leb (load b + size) (o .capacity)) e
-      ∙ ap (λ (x : Bool). x && leb (load b + size) (o .capacity)) (permitted-group n b)
-      ∙ room (inGroup n (rowOf o b)) (load b) size (o .capacity) h
+  takes-offered : (p : Packing) (i : Item) (n : ℕ) → 1 ≤ i .size → target o p i ≡ aim n → (b : Bin) → takes o p i b ≡ leb (i .size) (offers n (rowOf o b))
+  takes-offered p i n h e b =
+      ap (λ (t : Target). permitted o t b && leb (load b + i .size) (o .capacity)) e
+      ∙ ap (λ (x : Bool). x && leb (load b + i .size) (o .capacity)) (permitted-group n b)
+      ∙ room (inGroup n (rowOf o b)) (load b) (i .size) (o .capacity) h
 
   -- What the bins offer, place by place; past the last nothing.
   abbrev offered : Packing → (n i : ℕ) → ℕ
@@ -95,31 +101,32 @@ module _ (o : Opening) where
   bin-there n (b ∷ bs) zero h = omega arith
   bin-there n (b ∷ bs) (suc i) h = omega (arith, bin-there n bs i h)
 
-  bin-row : (new : Bin) (bins : List Bin) (i : ℕ) → i < length bins → getD (map (rowOf o) bins) i blank ≡ rowOf o (getD bins i new)
+  pub bin-row : (new : Bin) (bins : List Bin) (i : ℕ) → i < length bins → getD (map (rowOf o) bins) i blank ≡ rowOf o (getD bins i new)
   bin-row new [] i h = absurd (omega arith)
   bin-row new (b ∷ bs) zero h = refl
   bin-row new (b ∷ bs) (suc i) h = bin-row new bs i (omega arith)
 
-  module _ {p : Packing} {ledger : List (List ℕ)} (k : Records o ledger p) (n : ℕ) {size : ℕ} (some : 1 ≤ size) (aims : target o p (item size) ≡ aim n) where
-    fits-first : (i : ℕ) → i ≤ opened p → i ≤ places → ((j : ℕ) → j < i → offers n (rowAt ledger j) < size)
-        → (i < opened p → size ≤ offered p n i) → passed o p size ≡ i
-    fits-first i l m lower here =
-        stops n size (takes o p (item size)) (takes-offered p size n some aims) (p .bins) i l (λ j h. rw (k .row j (omega arith)) at (lower j h)) here
+  module _ {p : Packing} {ledger : List (List ℕ)} (k : Records o ledger p) (n : ℕ) (i : Item) (some : 1 ≤ i .size) (aims : target o p i ≡ aim n) where
+    fits-first : (place : ℕ) → place ≤ opened p → place ≤ places → ((j : ℕ) → j < place → offers n (rowAt ledger j) < i .size)
+        → (place < opened p → i .size ≤ offered p n place) → passed o p i ≡ place
+    fits-first place l m lower here =
+        stops n (i .size) (takes o p i) (takes-offered p i n some aims) (p .bins) place l (λ j h. rw (k .row j (omega arith)) at (lower j h)) here
 
     -- No row offers the size: first fit passes all bins.
-    pub first-none : opened p ≤ places → ((j : ℕ) → j < opened p → offers n (rowAt ledger j) < size) → passed o p size ≡ opened p
+    pub first-none : opened p ≤ places → ((j : ℕ) → j < opened p → offers n (rowAt ledger j) < i .size) → passed o p i ≡ opened p
     first-none few lower = fits-first (opened p) (omega arith) few lower (λ h. absurd (omega arith))
 
-    -- The row at place i is the first that offers it: first fit stops there, and the row is that of the bin which the item goes to.
-    module _ {i : ℕ} (inside : i < places) (lower : (j : ℕ) → j < i → offers n (rowAt ledger j) < size) (enough : size ≤ offers n (rowAt ledger i)) where
-      here : size ≤ offered p n i
-      here = rw (k .row i inside) at enough
+    -- The row at a place is the first that offers it: first fit stops there, and the row is that of the bin which the item goes to.
+    module _ {place : ℕ} (inside : place < places) (lower : (j : ℕ) → j < place → offers n (rowAt ledger j) < i .size)
+        (enough : i .size ≤ offers n (rowAt ledger place)) where
+      here : i .size ≤ offered p n place
+      here = rw (k .row place inside) at enough
 
-      pub first-there : i < opened p
-      first-there = bin-there n (p .bins) i (omega (arith, here))
+      pub first-there : place < opened p
+      first-there = bin-there n (p .bins) place (omega (arith, here))
 
-      pub first-at : passed o p size ≡ i
-      first-at = fits-first i (omega (arith, first-there)) (omega arith) lower (λ _. here)
+      pub first-at : passed o p i ≡ place
+      first-at = fits-first place (omega (arith, first-there)) (omega arith) lower (λ _. here)
 
-      pub first-row : rowAt ledger i ≡ rowOf o (chosen o p size)
-      first-row = k .row i inside ∙ rw first-at (bin-row (newBin o p size) (p .bins) i first-there)
+      pub first-row : rowAt ledger place ≡ rowOf o (chosen o p i)
+      first-row = k .row place inside ∙ rw first-at (bin-row (newBin o p i) (p .bins) place first-there)

@@ -1,7 +1,9 @@
 // The ledger: what is known of each bin, in plain rows and without a tree. Bin i + 1 has the row at place i, of four words; a place whose bin is not
-// opened has a row of zeros. It is lent by the caller, whole.
+// opened has a row of zeros. Beside it the notes: what is known of the item of each command, a row of two words at the command's number. Both are lent
+// by the caller, whole.
 use packing::Tally;
 ghost use Rattle.ledger.specs.Entering.{Enterable, Entered};
+ghost use Rattle.ledger.specs.Leaving.{Leavable, HasLeft};
 ghost use Rattle.ledger.specs.Counting.{Countable, Tallied};
 
 // A place for each bin that a stock can have.
@@ -18,6 +20,16 @@ pub const HELD: usize = 2;
 
 pub const HELD_A: usize = 3;
 
+// A note for each number that a command can have, and for 0, which none has.
+pub const NUMBERS: usize = 4097;
+
+// The words of a note: the bin that holds the command's item, 0 where it has none on the shelf; and the item's size.
+pub const NOTE_WORDS: usize = 2;
+
+pub const NOTE_BIN: usize = 0;
+
+pub const NOTE_SIZE: usize = 1;
+
 // Enters an item in the bin at a place, which is opened for it where it was not: the bin's class, the space that is then free, one item more, and so
 // many A more, 1 or 0. It answers the row that now stands there.
 pub fn enter(
@@ -33,6 +45,22 @@ pub fn enter(
     let before = ledger[place];
     let held = before[HELD] + 1;
     let held_a = before[HELD_A] + a;
+    let row = [class, free, held, held_a];
+    ledger[place] = row;
+    row
+}
+
+// Takes an item of this size out of the bin at a place, which stays opened: its space is free again, one item less, and so many A less, 1 or 0. It
+// answers the row that now stands there.
+pub fn leave(ledger: &mut [[u32; COLUMNS]; BINS], place: usize, size: u32, a: u32) -> [u32; COLUMNS]
+    requires { ⌜ Leavable (now ledger) place size a ⌝ }
+    ensures { λ r. ⌜ HasLeft (now (ledger .entry)) place size a r (now (ledger .exit)) ⌝ }
+{
+    let before = ledger[place];
+    let class = before[CLASS];
+    let free = before[FREE] + size;
+    let held = before[HELD] - 1;
+    let held_a = before[HELD_A] - a;
     let row = [class, free, held, held_a];
     ledger[place] = row;
     row

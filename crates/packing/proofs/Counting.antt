@@ -16,8 +16,8 @@ use Rattle.packing.specs.Run.{item, Step, entriesOf, placements}
 use Rattle.packing.specs.Counting.{stockPlaces, walk}
 use Rattle.packing.specs.Compared.{numberOpened}
 use Rattle.packing.proofs.Putting.{fresh, put-each}
-use Rattle.packing.proofs.Moves.{places, stays, Trace, ends, moves, trace}
-use Rattle.packing.proofs.Reached.{first-few, opens-class, opened-placed}
+use Rattle.packing.proofs.Moves.{places, withdraws, counts, refuses, Trace, ends, moves, trace}
+use Rattle.packing.proofs.Reached.{first-few, opens-class, opened-placed, opened-without}
 use Rattle.packing.proofs.Numbers.{trace-opened, trace-entries}
 
 -- Some entry has the number n.
@@ -35,20 +35,22 @@ answered-within n (e ∷ es) some h = elim (ℕ-discrete (e .bin) n) [
 
 module _ (o : Opening) where
   -- Each bin is opened for an item, which is answered its number.
-  opened-answered : (n : ℕ) {p q : Packing} {ts : List Step} → Trace o p ts q → opened p < n → n ≤ opened q → Answered n (entriesOf ts)
+  opened-answered : (bin : ℕ) {n : ℕ} {p q : Packing} {ts : List Step} → Trace o n p ts q → opened p < bin → bin ≤ opened q → Answered bin (entriesOf ts)
   unfolding any flatten
-  opened-answered n ends l m = absurd (omega arith)
-  opened-answered n (moves (stays e) r) l m = rw e (opened-answered n r l m)
-  opened-answered n (moves {p = p} (places {s = s} h) r) l m = elim (ℕ-discrete (binFor o p (item s)) n) [
-    | yes q ↦ rw (eq-eqb (binFor o p (item s)) n q)
+  opened-answered bin ends l m = absurd (omega arith)
+  opened-answered bin (moves {n = n} {p = p} (places {s = s} h) r) l m = elim (ℕ-discrete (binFor o p (item n s)) bin) [
+    | yes q ↦ rw (eq-eqb (binFor o p (item n s)) bin q)
     | no q ↦
-        let further = opened-answered n r (omega (arith, q, opened-placed o p (item s), first-few (takes o p (item s)) (p .bins))) m in
-        rw (ne-eqb (binFor o p (item s)) n q) further
+        let further = opened-answered bin r (omega (arith, q, opened-placed o p (item n s), first-few (takes o p (item n s)) (p .bins))) m in
+        rw (ne-eqb (binFor o p (item n s)) bin q) further
   ]
+  opened-answered bin (moves {p = p} (withdraws {named = named} e) r) l m = opened-answered bin r (omega (arith, opened-without o named p)) m
+  opened-answered bin (moves counts r) l m = opened-answered bin r l m
+  opened-answered bin (moves (refuses z) r) l m = opened-answered bin r l m
 
   pub numbers-answered : (cs : List Command) (n : ℕ) → Answered n (placements o cs) ↔ ((1 ≤ n) × (n ≤ numberOpened o cs))
   numbers-answered cs n = (
-    answered-within n (placements o cs) (λ e m. trace-entries o (trace o cs) e m .from-one),
+    answered-within n (placements o cs) (trace-entries o (trace o cs)),
     λ w. opened-answered n (trace o cs) (omega (arith, w)) (omega (arith, w, trace-opened o (trace o cs))),
   )
 

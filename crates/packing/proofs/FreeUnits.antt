@@ -1,22 +1,26 @@
--- The free units beside an answer are those of its bin, until the bin is answered again: what is answered its number tells what the bin holds.
-use Prim.Native.Nat.{ℕ, zero, suc, _+_, _≤_}
+-- The free units beside an answer are those of its bin, until an item goes there or leaves it: what is still shelved and was answered its number tells
+-- what the bin holds.
+use Prim.Native.Nat.{ℕ, zero, suc, _+_, _≤_, _<_}
 use mathlib.Core.Path.{_≡_, refl, sym, ap, _∙_}
-use mathlib.Core.List.{List, [], _∷_, _++_, map, foldl, reverseAux}
+use mathlib.Core.List.{List, [], _∷_, _++_, map}
 use native.Mathlib.Omega.{arith}
-use borrow.Author.Tests.{eq-eqb, leb-true, le-leb}
-use lib.ListN.{length, take, drop, getD, length-map}
-use Rattle.packing.specs.Prelude.{total, Opening, Command, Outcome, Placed}
-use Rattle.packing.specs.Bins.{Item, Bin, Packing, empty, load, itemsOf, freeOn}
+use borrow.Author.Tests.{leb-true, le-leb}
+use lib.ListN.{length, take, getD}
+use Rattle.packing.specs.Prelude.{total, Opening, Command, Outcome}
+use Rattle.packing.specs.Refusals.{binsNamed, freeUnits}
+use Rattle.packing.specs.Bins.{Item, Bin, Packing, opened, load, itemsOf, freeOn}
 use Rattle.packing.specs.Placing.{permitted, target, hasSpace, binFor}
-use Rattle.packing.specs.Run.{item, next, runFrom, packing, placements}
-use Rattle.packing.specs.Compared.{sizesIn}
+use Rattle.packing.specs.Withdrawing.{binHolding}
+use Rattle.packing.specs.Run.{item, packing}
 use Rattle.packing.specs.Claims.{FreeOf, FreeUnits}
 use Rattle.packing.proofs.Tests.{clash, both-true}
-use Rattle.packing.proofs.Moves.{Move, places, stays, move, trace}
+use Rattle.packing.proofs.Moves.{Move, places, withdraws, counts, refuses}
 use Rattle.packing.proofs.Reached.{reached}
-use Rattle.packing.proofs.Holding.{placed-items, trace-items, items-most}
+use Rattle.packing.proofs.Numbers.{opened-is}
+use Rattle.packing.proofs.Running.{move-at}
+use Rattle.packing.proofs.Holding.{items-most, sizes-held}
 
--- A number that has items is a bin's.
+-- A number from 1 to the number of bins is a bin's.
 record Standing (bins : List Bin) (number : ℕ) (items : List Item) : Type 0 where
   before : List Bin
   bin : Bin
@@ -25,11 +29,11 @@ record Standing (bins : List Bin) (number : ℕ) (items : List Item) : Type 0 wh
   numbered : number ≡ suc (length before)
   items-are : bin .items ≡ items
 
-stands-at : (n : ℕ) (bins : List Bin) → 1 ≤ length (getD (map (λ b. b .items) bins) n []) → Standing bins (suc n) (getD (map (λ b. b .items) bins) n [])
+stands-at : (n : ℕ) (bins : List Bin) → n < length bins → Standing bins (suc n) (getD (map (λ b. b .items) bins) n [])
 stands-at n [] h = absurd (omega arith)
 stands-at zero (b ∷ bs) h = record { before = []; bin = b; behind = bs; bins-are = refl; numbered = refl; items-are = refl }
 stands-at (suc n) (b ∷ bs) h =
-    let further = stands-at n bs h in
+    let further = stands-at n bs (omega arith) in
     record {
       before = b ∷ further .before;
       bin = further .bin;
@@ -39,32 +43,21 @@ stands-at (suc n) (b ∷ bs) h =
       items-are = further .items-are;
     }
 
-stands : (number : ℕ) (p : Packing) → 1 ≤ length (itemsOf number p) → Standing (p .bins) number (itemsOf number p)
-stands zero p h = absurd (omega arith)
-stands (suc n) p h = stands-at n (p .bins) h
+stands : (number : ℕ) (p : Packing) → 1 ≤ number → number ≤ opened p → Standing (p .bins) number (itemsOf number p)
+stands zero p l h = absurd (omega arith)
+stands (suc n) p l h = stands-at n (p .bins) (omega arith)
 
 module _ (o : Opening) where
-  -- Just after its command: the free units are the bin's, and it holds the item.
-  record Left (p : Packing) (bin free : ℕ) : Type 0 where
-    free-is : free ≡ freeOn o bin p
-    some : 1 ≤ length (itemsOf bin p)
+  -- Just after its command the free units are those of the bin that it names.
+  record Left (q : Packing) (bin free : ℕ) : Type 0 where
+    from-one : 1 ≤ bin
+    free-is : free ≡ freeOn o bin q
 
-  left-by : {p q : Packing} {c : Command} {a : Outcome} (bin free : ℕ) → Move o p c a q → a ≡ Placed bin free → Left q bin free
-  left-by bin free (stays none) e = clash (cc)
-  left-by {p = p} bin free (places {s = s} h) e =
-      let here : binFor o p (item s) ≡ bin = cc in
-      record {
-        free-is = cc;
-        some = rw (← here, placed-items o (binFor o p (item s)) p s, eq-eqb (binFor o p (item s)) (binFor o p (item s)) refl) (omega arith);
-      }
-
-  left-from : (j n : ℕ) (p : Packing) (cs : List Command) (bin free : ℕ) (later : List Outcome)
-      → drop j (map (λ t. t .outcome) (runFrom o p n cs)) ≡ Placed bin free ∷ later → Left (foldl (next o) p (take (suc j) cs)) bin free
-  unfolding runFrom
-  left-from zero n p [] bin free later e = clash (cc)
-  left-from zero n p (c ∷ cs) bin free later e = left-by bin free (move o p c) (cc)
-  left-from (suc j) n p [] bin free later e = clash (cc)
-  left-from (suc j) n p (c ∷ cs) bin free later e = left-from j (suc n) (next o p c) cs bin free later e
+  left-by : {p q : Packing} {n : ℕ} {c : Command} {a : Outcome} (bin : ℕ) → Move o p n c a q → binsNamed a ≡ bin ∷ [] → Left q bin (freeUnits a)
+  left-by {p = p} {n = n} bin (places {s = s} h) e = let here : binFor o p (item n s) ≡ bin = cc in record { from-one = omega (arith, here); free-is = cc }
+  left-by {p = p} bin (withdraws {named = named} h) e = let here : binHolding named p ≡ bin = cc in record { from-one = omega (arith, here); free-is = cc }
+  left-by bin counts e = clash (cc)
+  left-by bin (refuses z) e = clash (cc)
 
   -- What is free on a bin, by what stands there.
   free-of : (p : Packing) (number free : ℕ) → total (map (λ i. i .size) (itemsOf number p)) ≤ o .capacity → free ≡ freeOn o number p
@@ -86,26 +79,12 @@ module _ (o : Opening) where
       }
 
   module _ (cs : List Command) where
-    -- The sizes in a bin after the first i commands.
-    abbrev sizesAfter : (i number : ℕ) → List ℕ
-    sizesAfter i number = map (λ x. x .size) (itemsOf number (packing o (take i cs)))
-
-    -- They are the same where the items answered its number are.
-    same-sizes : (i k number : ℕ) → sizesIn number (placements o (take i cs)) ≡ sizesIn number (placements o (take k cs)) → sizesAfter i number ≡ sizesAfter k number
-    same-sizes i k number same =
-        trace-items o number (trace o (take i cs)) ∙ ap (λ l. reverseAux l (map (λ x. x .size) (itemsOf number empty))) same
-        ∙ sym (trace-items o number (trace o (take k cs)))
-
-    -- So no fewer are held.
-    same-held : (i k number : ℕ) → sizesAfter i number ≡ sizesAfter k number → length (itemsOf number (packing o (take i cs))) ≡ length (itemsOf number (packing o (take k cs)))
-    same-held i k number e =
-        sym (length-map (itemsOf number (packing o (take i cs))) (λ x. x .size)) ∙ ap length e ∙ length-map (itemsOf number (packing o (take k cs))) (λ x. x .size)
-
     pub free-units : FreeUnits o cs
-    free-units j i bin free later e same =
-        let left = left-from j 1 empty cs bin free later e in
-        let sizes = same-sizes i (suc j) bin same in
-        free-of (packing o (take i cs)) bin free
+    free-units j i bin a later e names few same =
+        let left = left-by bin (move-at o j cs a later e .moved) names in
+        let sizes : map (λ x. x .size) (itemsOf bin (packing o (take i cs))) ≡ map (λ x. x .size) (itemsOf bin (packing o (take (suc j) cs))) =
+        sizes-held o (take i cs) bin ∙ rw same (sym (sizes-held o (take (suc j) cs) bin)) in
+        free-of (packing o (take i cs)) bin (freeUnits a)
         (items-most (o .capacity) bin (packing o (take i cs)) (λ b m. reached o (take i cs) .bins-sound b m .not-overfull))
         (left .free-is ∙ rw (← sizes))
-        (stands bin (packing o (take i cs)) (omega (arith, left .some, same-held i (suc j) bin sizes)))
+        (stands bin (packing o (take i cs)) (left .from-one) (omega (arith, opened-is o (take i cs))))

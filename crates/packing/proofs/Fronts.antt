@@ -1,5 +1,5 @@
 -- The command at the front of a stream, test by test: each way that a front comes out, and what a whole one has passed.
-use mathlib.Core.Path.{_≡_, refl, ap, subst, _∙_}
+use mathlib.Core.Path.{_≡_, refl, ap, _∙_}
 use mathlib.Core.Bool.{Bool, true, false}
 use mathlib.Core.List.{List, [], _∷_}
 use Prim.Native.Nat.{ℕ, _+_, _-_, _≤_, _<_}
@@ -26,11 +26,6 @@ front-cut [] w h e t l = absurd (omega arith)
 front-cut (b ∷ s) w h e t l =
     let short : length s < w = omega arith in
     ap (front b s) e ∙ rw (ne-eqb b 1 t, lt-ltb (length s) w short)
-
--- The table gives command 02 four bytes.
-pub shelve-width : (b w : ℕ) → lookup b widths ≡ Known w → b ≡ 2 → w ≡ 4
-unfolding widths lookup
-shelve-width b w e t = let f : lookup 2 widths ≡ Known w = subst (λ (x : ℕ). lookup x widths ≡ Known w) t e in cc
 
 -- The tests that a whole front has passed.
 pub record Passing (s : List ℕ) (w : ℕ) : Type 0 where

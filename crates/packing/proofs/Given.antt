@@ -5,20 +5,21 @@ use mathlib.Core.Path.{_≡_, refl, sym, ap, _∙_}
 use mathlib.Core.List.{List, [], _∷_, map, zipWith}
 use native.Mathlib.Omega.{arith}
 use borrow.Author.Tests.{lt-ltb, le-ltb}
-use lib.Dec.{eqb}
-use Rattle.packing.specs.Prelude.{if_then_else_, Opening, Command, Shelve, Count, Outcome, Placed, Counted, Refused, ItemReason, SizeZero, AboveCapacity, StockSpent}
+use lib.Dec.{eqb, ltb}
+use Rattle.packing.specs.Prelude.{if_then_else_, Opening, Command, Shelve, Count, Withdraw, Outcome, Placed, Counted, Withdrawn, Refused}
+use Rattle.packing.specs.Prelude.{ItemReason, SizeZero, AboveCapacity, StockSpent, NotShelved}
 use Rattle.packing.specs.Prelude.{StreamReason, NoOpening, UnknownOpcode, CutShort, SecondOpening, OutsideLimits, TooManyCommands, TooFewWords, StreamResult}
 use Rattle.packing.specs.Prelude.{PlanReason, CapacityOutside, TooLong, SizeOutside, BinOutside, Overfull, OtherItems, PlanResult}
 use Rattle.packing.specs.Refusals.{streamNumber, itemNumber, planNumber, word, freeUnits, itemReason, outcomeOf}
 use Rattle.packing.specs.Bins.{Packing, empty, freeOn}
-use Rattle.packing.specs.Placing.{Decision, binFor, decision, placed}
-use Rattle.packing.specs.Run.{item, told, answerTo, next, runFrom}
+use Rattle.packing.specs.Placing.{binFor, placed}
+use Rattle.packing.specs.Withdrawing.{holdsNamed, binHolding, without}
+use Rattle.packing.specs.Run.{item, answerTo, next, runFrom}
 use Rattle.packing.specs.Claims.{StreamGivesBack, PlanGivesBack, WordsGiveBack}
 use Rattle.packing.proofs.Limits.{in-limits}
 use Rattle.packing.proofs.Tests.{clash}
-use Rattle.packing.proofs.Decided.{Decided, goes-in, is-zero, is-above, is-spent, decided}
-use Rattle.packing.proofs.Moves.{move}
-use Rattle.packing.proofs.Reached.{in-stock, Reached, reached-move, reached}
+use Rattle.packing.proofs.Moves.{Move, places, withdraws, counts, refuses, move}
+use Rattle.packing.proofs.Reached.{first-any, in-stock, Reached, reached-empty, reached-move}
 
 -- The refusal of a number, and that it is the one that has it.
 streamReason : (number : ℕ) → StreamReason
@@ -63,6 +64,7 @@ item-reason : (reason : ItemReason) → itemReason (itemNumber reason) ≡ reaso
 item-reason SizeZero = refl
 item-reason AboveCapacity = refl
 item-reason StockSpent = refl
+item-reason NotShelved = refl
 
 -- No two refusals share a number.
 pub stream-number-back : (r s : StreamReason) → streamNumber r ≡ streamNumber s → r ≡ s
@@ -86,10 +88,11 @@ plan-gives-back (PlanResult.Refused reason place) (PlanResult.Refused reason′ 
     let same : planNumber reason ≡ planNumber reason′ = cc in cc (plan-number-back reason reason′ same)
 
 -- How large they are.
-pub item-number-few : (reason : ItemReason) → itemNumber reason ≤ 10
+pub item-number-few : (reason : ItemReason) → itemNumber reason ≤ 17
 item-number-few SizeZero = omega arith
 item-number-few AboveCapacity = omega arith
 item-number-few StockSpent = omega arith
+item-number-few NotShelved = omega arith
 
 pub stream-number-few : (reason : StreamReason) → streamNumber reason ≤ 7
 stream-number-few NoOpening = omega arith
@@ -100,33 +103,45 @@ stream-number-few OutsideLimits = omega arith
 stream-number-few TooManyCommands = omega arith
 stream-number-few TooFewWords = omega arith
 
+-- So the word of a refusal gives it back.
+refused-back : (other : Outcome) (reason : ItemReason)
+    → (if ltb (32_768 + itemNumber reason) 32_768 then other else Refused (itemReason (32_768 + itemNumber reason - 32_768))) ≡ Refused reason
+refused-back other reason =
+    let k : 32_768 + itemNumber reason - 32_768 ≡ itemNumber reason = omega arith in
+    rw (le-ltb (32_768 + itemNumber reason) 32_768 (omega arith), k, item-reason)
+
 -- What the answer to a command can be, in a packing that commands can reach: a bin within the stock with free units within the capacity, a count within
 -- the stock, or a refusal.
-module _ (o : Opening) (p : Packing) (h : Reached o p) where
+module _ (o : Opening) (p : Packing) (n : ℕ) (h : Reached o p) where
   pub data Told : Command → Outcome → Type 0 where
     placed-in : {s bin free : ℕ} → bin ≤ o .stock → free ≤ o .capacity → Told (Shelve s) (Placed bin free)
-    counted : {n : ℕ} → n ≤ o .stock → Told Count (Counted n)
-    refused : {s : ℕ} {reason : ItemReason} → Told (Shelve s) (Refused reason)
+    counted : {count : ℕ} → count ≤ o .stock → Told Count (Counted count)
+    withdrawn-from : {named bin free : ℕ} → bin ≤ o .stock → free ≤ o .capacity → Told (Withdraw named) (Withdrawn bin free)
+    refused-item : {s : ℕ} {reason : ItemReason} → Told (Shelve s) (Refused reason)
+    refused-out : {named : ℕ} {reason : ItemReason} → Told (Withdraw named) (Refused reason)
 
-  pub told-to : (c : Command) → Told c (answerTo o p c)
-  told-to Count = counted (h .stock-lasts)
-  told-to (Shelve s) = go (decision o p (item s)) (decided o p (item s))
+  pub told-to : (c : Command) → Told c (answerTo o p n c)
+  told-to c = go c (answerTo o p n c) (next o p n c) (move o p n c)
     where
-      go : (d : Decision) → Decided o p (item s) d → Told (Shelve s) (told o (placed o p (item s)) d)
-      go d (goes-in i) =
-          let bin = binFor o p (item s) in
-          placed-in {bin = bin} {free = freeOn o bin (placed o p (item s))} (omega (arith, in-stock o p (item s) (i .not-spent) (h .stock-lasts))) (omega arith)
-      go d (is-zero e) = refused
-      go d (is-above l m) = refused
-      go d (is-spent l m z) = refused
+      go : (c : Command) (a : Outcome) (q : Packing) → Move o p n c a q → Told c a
+      go c a q (places {s = s} i) =
+          let bin = binFor o p (item n s) in
+          placed-in {bin = bin} {free = freeOn o bin (placed o p (item n s))} (omega (arith, in-stock o p (item n s) (i .not-spent) (h .stock-lasts))) (omega arith)
+      go c a q counts = counted (h .stock-lasts)
+      go c a q (withdraws {named = named} e) =
+          let bin = binHolding named p in
+          withdrawn-from {bin = bin} {free = freeOn o bin (without named p)} (omega (arith, first-any (holdsNamed named) (p .bins) e, h .stock-lasts)) (omega arith)
+      go (Shelve s) a q (refuses z) = refused-item
+      go Count a q (refuses z) = absurd (z refl)
+      go (Withdraw named) a q (refuses z) = refused-out
 
   -- A bin's number is below 32,768, so the word tells it from a refusal.
   pub word-gives-back : o .stock ≤ 512 → (c : Command) (a : Outcome) → Told c a → outcomeOf c (word a) (freeUnits a) ≡ a
   word-gives-back most c a (placed-in {bin = bin} l m) = rw (lt-ltb bin 32_768 (omega arith))
   word-gives-back most c a (counted l) = refl
-  word-gives-back most c a (refused {reason = reason}) =
-      let k : 32_768 + itemNumber reason - 32_768 ≡ itemNumber reason = omega arith in
-      rw (le-ltb (32_768 + itemNumber reason) 32_768 (omega arith), k, item-reason)
+  word-gives-back most c a (withdrawn-from {bin = bin} l m) = rw (lt-ltb bin 32_768 (omega arith))
+  word-gives-back most c a (refused-item {reason = reason}) = refused-back (Placed (32_768 + itemNumber reason) 0) reason
+  word-gives-back most c a (refused-out {reason = reason}) = refused-back (Withdrawn (32_768 + itemNumber reason) 0) reason
 
 words-from : (o : Opening) → o .stock ≤ 512 → (cs : List Command) (p : Packing) (n : ℕ) → Reached o p
     → zipWith (λ given free. given free) (zipWith outcomeOf cs (map word (map (λ t. t .outcome) (runFrom o p n cs)))) (map freeUnits (map (λ t. t .outcome) (runFrom o p n cs)))
@@ -134,7 +149,7 @@ words-from : (o : Opening) → o .stock ≤ 512 → (cs : List Command) (p : Pac
 unfolding zipWith runFrom
 words-from o stock [] p n h = refl
 words-from o stock (c ∷ cs) p n h =
-    rw (word-gives-back o p h stock c (answerTo o p c) (told-to o p h c), words-from o stock cs (next o p c) (suc n) (reached-move o (move o p c) h))
+    rw (word-gives-back o p n h stock c (answerTo o p n c) (told-to o p n h c), words-from o stock cs (next o p n c) (suc n) (reached-move o (move o p n c) h))
 
 pub words-give-back : (o : Opening) (cs : List Command) → WordsGiveBack o cs
-words-give-back o cs good = words-from o (in-limits o good .stock .1) cs empty 1 (reached o [])
+words-give-back o cs good = words-from o (in-limits o good .stock .1) cs empty 1 (reached-empty o)

@@ -1,19 +1,21 @@
--- Bin n holds the items answered n: each item of the trace goes to the bin of the number that it is answered. So what is answered n is no larger than
--- the capacity.
+-- Bin n holds the items still shelved that were answered n: each item of the trace goes to the bin of the number that it is answered, and leaves no
+-- other. So what is answered n is no larger than the capacity.
 use Prim.Native.Nat.{ℕ, zero, suc, _+_, _≤_}
-use mathlib.Core.Path.{_≡_, refl, ap, _∙_}
-use mathlib.Core.Bool.{Bool, true, false}
-use mathlib.Core.List.{List, [], _∷_, map, flatten, reverseAux, List·Memᴰ, List·Memᴰ·head, List·Memᴰ·tail}
+use mathlib.Core.Path.{_≡_, refl, sym, ap, _∙_}
+use mathlib.Core.Bool.{Bool, true, false, not}
+use mathlib.Core.List.{List, [], _∷_, _++_, map, reverse, reverseAux, map-append, map-map, append-nil, reverse-append, List·Memᴰ, List·Memᴰ·head, List·Memᴰ·tail}
 use native.Mathlib.Omega.{arith}
 use lib.Dec.{eqb, eqb·zero-suc, eqb·suc-zero, eqb·suc-suc}
-use lib.ListN.{getD}
-use Rattle.packing.specs.Prelude.{if_then_else_, total, keep, Opening, Command, Entry}
+use lib.ListN.{length, getD}
+use Rattle.packing.specs.Prelude.{if_then_else_, total, keep, Opening, Command, Outcome}
 use Rattle.packing.specs.Bins.{Item, Bin, Packing, empty, load, itemsOf, add}
 use Rattle.packing.specs.Placing.{firstFit, put, target, classOf, takes, binFor, placed}
-use Rattle.packing.specs.Run.{item, Step, entriesOf, packing, placements}
-use Rattle.packing.specs.Compared.{sizesIn}
+use Rattle.packing.specs.Withdrawing.{isNamed, emptiedOf, without}
+use Rattle.packing.specs.Run.{item, Shelved, entryOf, shelving, run, packing, stillShelved}
+use Rattle.packing.specs.Compared.{shelfPlan, sizesIn}
 use Rattle.packing.proofs.Putting.{fresh}
-use Rattle.packing.proofs.Moves.{places, stays, Trace, ends, moves, trace}
+use Rattle.packing.proofs.Keeping.{keep-append, keep-reversed, keep-map, keep-swap}
+use Rattle.packing.proofs.Moves.{Move, places, withdraws, counts, refuses, trace, carried}
 use Rattle.packing.proofs.Reached.{reached}
 
 -- The items of the bin with so many before it.
@@ -21,7 +23,7 @@ abbrev itemsAt : (before : ℕ) → List Bin → List Item
 itemsAt n bins = getD (map (λ b. b .items) bins) n []
 
 -- With one more at the front, if it is this bin's.
-abbrev grown : Bool → Item → List Item → List Item
+abbrev pub grown : Bool → Item → List Item → List Item
 grown here i items = if here then i ∷ items else items
 
 module _ (test : Bin → Bool) (class : ℕ) (i : Item) where
@@ -44,31 +46,65 @@ module _ (test : Bin → Bool) (class : ℕ) (i : Item) where
 
 module _ (o : Opening) where
   -- Bins are numbered from 1.
-  pub placed-items : (n : ℕ) (p : Packing) (s : ℕ) → itemsOf n (placed o p (item s)) ≡ grown (eqb (binFor o p (item s)) n) (item s) (itemsOf n p)
+  pub placed-items : (n : ℕ) (p : Packing) (i : Item) → itemsOf n (placed o p i) ≡ grown (eqb (binFor o p i) n) i (itemsOf n p)
   unfolding placed
-  placed-items zero p s = rw (eqb·suc-zero (firstFit (takes o p (item s)) (p .bins)))
-  placed-items (suc n) p s =
-      rw (eqb·suc-suc (firstFit (takes o p (item s)) (p .bins)) n)
-      (put-items-at (takes o p (item s)) (classOf (target o p (item s))) (item s) n (p .bins))
+  placed-items zero p i = rw (eqb·suc-zero (firstFit (takes o p i) (p .bins)))
+  placed-items (suc n) p i = rw (eqb·suc-suc (firstFit (takes o p i) (p .bins)) n) (put-items-at (takes o p i) (classOf (target o p i)) i n (p .bins))
 
-  abbrev sizesOf : ℕ → Packing → List ℕ
-  sizesOf n p = map (λ i. i .size) (itemsOf n p)
+-- The others of a bin are as they were when an item is taken out.
+pub without-items : (n named : ℕ) (p : Packing) → itemsOf n (without named p) ≡ keep (λ i. not (isNamed named i)) (itemsOf n p)
+unfolding without keep
+without-items zero named p = refl
+without-items (suc n) named p = at n (p .bins)
+  where
+    at : (n : ℕ) (bins : List Bin) → itemsAt n (map (emptiedOf named) bins) ≡ keep (λ i. not (isNamed named i)) (itemsAt n bins)
+    at n [] = refl
+    at zero (b ∷ bs) = refl
+    at (suc n) (b ∷ bs) = at n bs
 
-  -- In the order of the entries, onto what the bin held before.
-  pub trace-items : (n : ℕ) {p q : Packing} {ts : List Step} → Trace o p ts q → sizesOf n q ≡ reverseAux (sizesIn n (entriesOf ts)) (sizesOf n p)
-  unfolding keep flatten
-  trace-items n ends = refl
-  trace-items n (moves (stays e) r) = rw e (trace-items n r)
-  trace-items n (moves {p = p} {ts = ts} (places {s = s} a) r) =
-      trace-items n r ∙ ap (λ items. reverseAux (sizesIn n (entriesOf ts)) (map (λ i. i .size) items)) (placed-items n p s) ∙ go (eqb (binFor o p (item s)) n)
+-- What the answers say that bin n holds, the last first.
+abbrev pub heldBy : (n : ℕ) → List Shelved → List Item
+heldBy n on = reverse (map (λ s. s .item) (keep (λ s. eqb (s .bin) n) on))
+
+abbrev pub Holds : Packing → List Shelved → Type 0
+Holds p on = (n : ℕ) → itemsOf n p ≡ heldBy n on
+
+held-more : (n bin : ℕ) (i : Item) (on : List Shelved) → heldBy n (on ++ record { item = i; bin = bin } ∷ []) ≡ grown (eqb bin n) i (heldBy n on)
+unfolding keep
+held-more n bin i on = ap (λ l. reverse (map (λ s. s .item) l)) (keep-append (λ s. eqb (s .bin) n) on (record { item = i; bin = bin } ∷ [])) ∙ go (eqb bin n)
+  where
+    before : List Shelved
+    before = keep (λ s. eqb (s .bin) n) on
+
+    go : (t : Bool) → reverse (map (λ s. s .item) (before ++ (if t then record { item = i; bin = bin } ∷ [] else []))) ≡ grown t i (heldBy n on)
+    go true = ap reverse (map-append (λ s. s .item) before (record { item = i; bin = bin } ∷ [])) ∙ reverse-append (map (λ s. s .item) before) (i ∷ [])
+    go false = ap (λ l. reverse (map (λ s. s .item) l)) (append-nil before)
+
+held-less : (n named : ℕ) (on : List Shelved) → heldBy n (keep (λ s. not (isNamed named (s .item))) on) ≡ keep (λ i. not (isNamed named i)) (heldBy n on)
+unfolding keep
+held-less n named on =
+    let here : Shelved → Bool = λ s. eqb (s .bin) n in
+    let others : Item → Bool = λ i. not (isNamed named i) in
+    ap (λ l. reverse (map (λ s. s .item) l)) (keep-swap here (λ s. others (s .item)) on)
+    ∙ ap reverse (sym (keep-map (λ s. s .item) (λ s. others (s .item)) others (keep here on) (λ s m. refl)))
+    ∙ sym (keep-reversed others (map (λ s. s .item) (keep here on)) [])
+
+module _ (o : Opening) where
+  holds-move : (n : ℕ) (p q : Packing) (c : Command) (a : Outcome) (on : List Shelved) → Move o p n c a q → Holds p on → Holds q (shelving n c a on)
+  holds-move n p q c a on (places {s = s} d) h k =
+      placed-items o k p (item n s) ∙ ap (grown (eqb (binFor o p (item n s)) k) (item n s)) (h k) ∙ sym (held-more k (binFor o p (item n s)) (item n s) on)
+  holds-move n p q c a on (withdraws {named = named} e) h k =
+      without-items k named p ∙ ap (keep (λ i. not (isNamed named i))) (h k) ∙ sym (held-less k named on)
+  holds-move n p q c a on counts h k = h k
+  holds-move n p q c a on (refuses z) h k = h k
+
+  pub holds : (cs : List Command) → Holds (packing o cs) (stillShelved o cs)
+  unfolding keep
+  holds cs = carried o (λ n. Holds) holds-move (trace o cs) (length (run o cs) + 1) refl [] none
     where
-      later : List Entry
-      later = keep (λ e. eqb (e .bin) n) (entriesOf ts)
-
-      go : (t : Bool) → reverseAux (map (λ e. e .size) later) (map (λ i. i .size) (grown t (item s) (itemsOf n p)))
-          ≡ reverseAux (map (λ e. e .size) (if t then record { size = s; bin = binFor o p (item s) } ∷ later else later)) (sizesOf n p)
-      go true = refl
-      go false = refl
+      none : (n : ℕ) → itemsOf n empty ≡ heldBy n []
+      none zero = refl
+      none (suc n) = refl
 
 -- What holds of every bin's load holds of the items of every number.
 items-at-most : (c n : ℕ) (bins : List Bin) → ((b : Bin) → List·Memᴰ b bins → load b ≤ c) → total (map (λ i. i .size) (itemsAt n bins)) ≤ c
@@ -82,18 +118,27 @@ unfolding total
 items-most c zero p h = omega arith
 items-most c (suc n) p h = items-at-most c n (p .bins) h
 
+map-reversed : {A B : Type 0} (f : A → B) (l r : List A) → map f (reverseAux l r) ≡ reverseAux (map f l) (map f r)
+map-reversed f [] r = refl
+map-reversed f (a ∷ l) r = map-reversed f l (a ∷ r)
+
 total-reversed : (xs ys : List ℕ) → total (reverseAux xs ys) ≡ total xs + total ys
 unfolding total
 total-reversed [] ys = omega arith
 total-reversed (x ∷ xs) ys = omega (arith, total-reversed xs (x ∷ ys))
 
--- So what is answered n is no larger than the capacity.
-pub shown-few : (o : Opening) (cs : List Command) (n : ℕ) → total (sizesIn n (placements o cs)) ≤ o .capacity
-unfolding total
-shown-few o cs n =
-    let few = items-most (o .capacity) n (packing o cs) (λ b m. reached o cs .bins-sound b m .not-overfull) in
-    omega (arith, few, ap total (trace-items o n (trace o cs)), total-reversed (sizesIn n (placements o cs)) (map (λ i. i .size) (itemsOf n empty)), none-in n)
-  where
-    none-in : (n : ℕ) → total (map (λ i. i .size) (itemsOf n empty)) ≡ 0
-    none-in zero = refl
-    none-in (suc n) = refl
+module _ (o : Opening) (cs : List Command) (n : ℕ) where
+  -- The sizes in bin n are those of the shelf's own plan.
+  pub sizes-held : map (λ i. i .size) (itemsOf n (packing o cs)) ≡ reverse (sizesIn n (shelfPlan o cs))
+  sizes-held =
+      let here : List Shelved = keep (λ s. eqb (s .bin) n) (stillShelved o cs) in
+      ap (map (λ i. i .size)) (holds o cs n) ∙ map-reversed (λ i. i .size) (map (λ s. s .item) here) []
+      ∙ ap reverse (map-map (λ i. i .size) (λ s. s .item) here ∙ sym (map-map (λ e. e .size) entryOf here)
+      ∙ ap (map (λ e. e .size)) (sym (keep-map entryOf (λ s. eqb (s .bin) n) (λ e. eqb (e .bin) n) (stillShelved o cs) (λ s m. refl))))
+
+  -- So what is answered n is no larger than the capacity.
+  pub shown-few : total (sizesIn n (shelfPlan o cs)) ≤ o .capacity
+  unfolding total
+  shown-few =
+      let few = items-most (o .capacity) n (packing o cs) (λ b m. reached o cs .bins-sound b m .not-overfull) in
+      omega (arith, few, ap total sizes-held, total-reversed (sizesIn n (shelfPlan o cs)) [])

@@ -1,58 +1,86 @@
--- The numbers answered and the sums of a run, by its trace: the number of bins is the greatest number answered, and weights add up.
+-- The numbers answered in a run, by its trace: the number of bins is the greatest of them, and every one is that of a bin.
 use Prim.Native.Nat.{ℕ, suc, _+_, _≤_, max}
 use mathlib.Core.Path.{_≡_}
-use mathlib.Core.List.{List, [], _∷_, _++_, map, flatten, List·Memᴰ, List·Memᴰ·not-nil}
+use mathlib.Core.Bool.{not}
+use mathlib.Core.List.{List, [], _∷_, map, flatten, List·Memᴰ, List·Memᴰ·not-nil}
 use native.Mathlib.Omega.{arith}
-use lib.ListN.{length}
-use Rattle.packing.specs.Prelude.{total, greatest, Opening, Command, Outcome, Placed, Counted, Refused, Entry}
+use lib.ListN.{length, length-append}
+use Rattle.packing.specs.Prelude.{total, greatest, Opening, Command, Outcome, Placed, Counted, Withdrawn, Refused, Entry}
+use Rattle.packing.specs.Refusals.{binsNamed}
+use Rattle.packing.specs.SizeClasses.{sizeClass, countB2}
 use Rattle.packing.specs.Bins.{Packing, opened}
-use Rattle.packing.specs.Placing.{target, classOf, takes, placed}
-use Rattle.packing.specs.Run.{item, Step, placement, entriesOf}
-use Rattle.packing.proofs.Tests.{each-cons}
-use Rattle.packing.proofs.Putting.{weightOf, put-weight}
-use Rattle.packing.proofs.Moves.{places, stays, Trace, ends, moves}
-use Rattle.packing.proofs.Reached.{opened-placed}
+use Rattle.packing.specs.Placing.{placed}
+use Rattle.packing.specs.Withdrawing.{isNamed, holdsNamed, without}
+use Rattle.packing.specs.Run.{item, Step, Shelved, shelving, shelvedBy, entriesOf, sizeOf, nameOf, packing}
+use Rattle.packing.specs.Compared.{acceptedSizes, numberOpened}
+use Rattle.packing.proofs.Tests.{each-cons, each-append}
+use Rattle.packing.proofs.Weights.{keep-few}
+use Rattle.packing.proofs.Moves.{Move, places, withdraws, counts, refuses, Trace, ends, moves, trace}
+use Rattle.packing.proofs.Reached.{first-any, opened-placed, opened-without}
 
 module _ (o : Opening) where
-  -- The number of bins is the greatest number answered, where that is more than there were.
-  pub trace-opened : {p q : Packing} {ts : List Step} → Trace o p ts q → opened q ≡ max (opened p) (greatest (map (λ e. e .bin) (entriesOf ts)))
+  -- The number of bins is the greatest number answered to an item, where that is more than there were.
+  pub trace-opened : {n : ℕ} {p q : Packing} {ts : List Step} → Trace o n p ts q → opened q ≡ max (opened p) (greatest (map (λ e. e .bin) (entriesOf ts)))
   unfolding greatest flatten
   trace-opened ends = omega arith
-  trace-opened (moves {p = p} (places {s = s} h) r) = omega (arith, trace-opened r, opened-placed o p (item s))
-  trace-opened (moves (stays e) r) = rw e (trace-opened r)
+  trace-opened {n = n} (moves {p = p} (places {s = s} h) r) = omega (arith, trace-opened r, opened-placed o p (item n s))
+  trace-opened (moves {p = p} (withdraws {named = named} e) r) = omega (arith, trace-opened r, opened-without o named p)
+  trace-opened (moves counts r) = trace-opened r
+  trace-opened (moves (refuses z) r) = trace-opened r
 
-  -- Every weight of the packing is that of the accepted items, added to what there was.
-  pub trace-weight : (w : ℕ → ℕ) {p q : Packing} {ts : List Step} → Trace o p ts q
-      → weightOf w (q .bins) ≡ weightOf w (p .bins) + total (map (λ e. w (e .size)) (entriesOf ts))
-  unfolding total placed flatten
-  trace-weight w ends = omega arith
-  trace-weight w (moves {p = p} (places {s = s} h) r) =
-      omega (arith, trace-weight w r, put-weight w (takes o p (item s)) (classOf (target o p (item s))) (item s) (p .bins))
-  trace-weight w (moves (stays e) r) = rw e (trace-weight w r)
+  -- The B2 items are counted as they are accepted, and no withdrawal uncounts one.
+  trace-b2s : {n : ℕ} {p q : Packing} {ts : List Step} → Trace o n p ts q
+      → q .b2s ≡ p .b2s + total (map (λ s. countB2 (sizeClass (o .capacity) s)) (map (λ e. e .size) (entriesOf ts)))
+  unfolding total flatten placed without
+  trace-b2s ends = omega arith
+  trace-b2s (moves (places h) r) = omega (arith, trace-b2s r)
+  trace-b2s (moves (withdraws e) r) = trace-b2s r
+  trace-b2s (moves counts r) = trace-b2s r
+  trace-b2s (moves (refuses z) r) = trace-b2s r
 
-  -- The sizes and the numbers of the entries are within their limits.
-  pub record EntryGood (e : Entry) : Type 0 where
-    pub some : 1 ≤ e .size
-    pub within-capacity : e .size ≤ o .capacity
-    pub from-one : 1 ≤ e .bin
+  pub b2s-are : (cs : List Command) → packing o cs .b2s ≡ total (map (λ s. countB2 (sizeClass (o .capacity) s)) (acceptedSizes o cs))
+  b2s-are cs = omega (arith, trace-b2s (trace o cs))
 
-  pub trace-entries : {p q : Packing} {ts : List Step} → Trace o p ts q → (e : Entry) → List·Memᴰ e (entriesOf ts) → EntryGood e
+  -- Every number that a move answers is that of a bin which then is opened.
+  move-named : {n : ℕ} {p q : Packing} {c : Command} {a : Outcome} → Move o p n c a q → (bin : ℕ) → List·Memᴰ bin (binsNamed a) → (1 ≤ bin) × (bin ≤ opened q)
+  move-named {n = n} {p = p} (places {s = s} h) =
+      each-cons (λ bin. (1 ≤ bin) × (bin ≤ _)) (omega (arith, opened-placed o p (item n s))) (λ bin m. absurd (List·Memᴰ·not-nil m))
+  move-named {p = p} (withdraws {named = named} e) =
+      each-cons (λ bin. (1 ≤ bin) × (bin ≤ _)) (omega (arith, opened-without o named p, first-any (holdsNamed named) (p .bins) e)) (λ bin m. absurd (List·Memᴰ·not-nil m))
+  move-named counts = λ bin m. absurd (List·Memᴰ·not-nil m)
+  move-named (refuses z) = λ bin m. absurd (List·Memᴰ·not-nil m)
+
+  -- So is every number that a run answers, at its end: bins are never closed.
+  pub trace-named : {n : ℕ} {p q : Packing} {ts : List Step} → Trace o n p ts q → (bin : ℕ) → List·Memᴰ bin (flatten (map binsNamed (map (λ t. t .outcome) ts)))
+      → (1 ≤ bin) × (bin ≤ opened q)
+  unfolding flatten
+  trace-named ends = λ bin m. absurd (List·Memᴰ·not-nil m)
+  trace-named {q = q} (moves {a = a} m r) =
+      each-append (λ bin. (1 ≤ bin) × (bin ≤ opened q)) (binsNamed a) _ (λ bin x. omega (arith, move-named m bin x, trace-opened r)) (trace-named r)
+
+  -- An item is answered no number below 1.
+  pub trace-entries : {n : ℕ} {p q : Packing} {ts : List Step} → Trace o n p ts q → (e : Entry) → List·Memᴰ e (entriesOf ts) → 1 ≤ e .bin
   unfolding flatten
   trace-entries ends = λ e m. absurd (List·Memᴰ·not-nil m)
-  trace-entries (moves (places h) r) =
-      each-cons EntryGood (record { some = h .some; within-capacity = h .within-capacity; from-one = omega arith }) (trace-entries r)
-  trace-entries (moves (stays e) r) = rw e (trace-entries r)
+  trace-entries (moves (places h) r) = each-cons (λ e. 1 ≤ e .bin) (omega arith) (trace-entries r)
+  trace-entries (moves (withdraws e) r) = trace-entries r
+  trace-entries (moves counts r) = trace-entries r
+  trace-entries (moves (refuses z) r) = trace-entries r
 
--- No more items are placed than there are steps.
-pub entries-few : (ts : List Step) → length (entriesOf ts) ≤ length ts
-unfolding flatten
-entries-few [] = omega arith
-entries-few (t ∷ ts) = go (t .command) (t .outcome) (entriesOf ts) (entries-few ts)
+-- The number of bins is the greatest number answered.
+pub opened-is : (o : Opening) (cs : List Command) → opened (packing o cs) ≡ numberOpened o cs
+opened-is o cs = omega (arith, trace-opened o (trace o cs))
+
+-- No more items are on the shelf than were before, and than there are steps.
+pub shelved-steps : (ts : List Step) (on : List Shelved) → length (shelvedBy ts on) ≤ length ts + length on
+shelved-steps [] on = omega arith
+shelved-steps (t ∷ ts) on = omega (arith, shelved-steps ts (shelving (t .number) (t .command) (t .outcome) on), go (t .outcome))
   where
-    go : (c : Command) (a : Outcome) (es : List Entry) → length es ≤ length ts → length (placement c a ++ es) ≤ suc (length ts)
-    go c (Placed bin free) es h = omega arith
-    go c (Counted n) es h = omega arith
-    go c (Refused reason) es h = omega arith
+    go : (a : Outcome) → length (shelving (t .number) (t .command) a on) ≤ suc (length on)
+    go (Placed bin free) = omega (arith, length-append on (record { item = item (t .number) (sizeOf (t .command)); bin = bin } ∷ []))
+    go (Counted n) = omega arith
+    go (Withdrawn bin free) = omega (arith, keep-few (λ s. not (isNamed (nameOf (t .command)) (s .item))) on)
+    go (Refused reason) = omega arith
 
 -- A member is at most the greatest.
 pub at-most-greatest : {A : Type 0} (f : A → ℕ) (l : List A) (a : A) → List·Memᴰ a l → f a ≤ greatest (map f l)

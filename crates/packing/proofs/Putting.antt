@@ -1,11 +1,11 @@
--- One item goes into the first bin that takes it, or into a new one: what this does to the number of bins, to sums over them, and to what holds of each.
-use Prim.Native.Nat.{ℕ, suc, _+_, max}
+-- One item goes into the first bin that takes it, or into a new one: what this does to the number of bins, and to what holds of each.
+use Prim.Native.Nat.{ℕ, suc, max}
 use mathlib.Core.Path.{_≡_, refl}
 use mathlib.Core.Bool.{Bool, true, false}
-use mathlib.Core.List.{List, [], _∷_, map, List·Memᴰ, List·Memᴰ·head, List·Memᴰ·tail}
+use mathlib.Core.List.{List, [], _∷_, List·Memᴰ, List·Memᴰ·head, List·Memᴰ·tail}
 use native.Mathlib.Omega.{arith}
 use lib.ListN.{length}
-use Rattle.packing.specs.Prelude.{if_then_else_, total}
+use Rattle.packing.specs.Prelude.{if_then_else_}
 use Rattle.packing.specs.Bins.{Item, Bin, add}
 use Rattle.packing.specs.Placing.{firstFit, put}
 use Rattle.packing.proofs.Tests.{each-cons}
@@ -37,22 +37,3 @@ module _ (takes : Bin → Bool) (new : Bin) (i : Item) where
           → (x : Bin) → List·Memᴰ x (if t then add i b ∷ bs else b ∷ put takes new i bs) → T x
       go true e r = each-cons T (keep b e (h b (List·Memᴰ·head refl))) (λ x m. h x (List·Memᴰ·tail m))
       go false e r = each-cons T (h b (List·Memᴰ·head refl)) r
-
--- The sum of a weight over the items of a bin, and over all bins. The weight that is the size gives the loads.
-abbrev pub binWeight : (ℕ → ℕ) → Bin → ℕ
-binWeight w b = total (map (λ i. w (i .size)) (b .items))
-
-abbrev pub weightOf : (ℕ → ℕ) → List Bin → ℕ
-weightOf w bins = total (map (binWeight w) bins)
-
--- Every weight grows by the item's.
-pub put-weight : (w : ℕ → ℕ) (takes : Bin → Bool) (class : ℕ) (i : Item) (bins : List Bin)
-    → weightOf w (put takes (fresh class) i bins) ≡ weightOf w bins + w (i .size)
-unfolding put total
-put-weight w takes class i [] = omega arith
-put-weight w takes class i (b ∷ bs) = go (takes b) (put-weight w takes class i bs)
-  where
-    go : (t : Bool) → weightOf w (put takes (fresh class) i bs) ≡ weightOf w bs + w (i .size)
-        → weightOf w (if t then add i b ∷ bs else b ∷ put takes (fresh class) i bs) ≡ weightOf w (b ∷ bs) + w (i .size)
-    go true r = omega arith
-    go false r = omega arith

@@ -1,20 +1,22 @@
--- What every packing is that commands can reach: no more bins than the stock, each not overfull, filled, and of the class of its items.
-use Prim.Native.Nat.{ℕ, suc, _+_, _%_, _≤_, max}
+-- What every packing is that commands can reach: no more bins than the stock, each not overfull, and of the class of its items.
+use Prim.Native.Nat.{ℕ, suc, _+_, _%_, _≤_, _<_, max}
 use mathlib.Core.Path.{_≡_, refl}
-use mathlib.Core.Bool.{Bool, true, false, _&&_, _||_}
+use mathlib.Core.Bool.{Bool, true, false, not, _&&_, _||_, false≢true}
 use mathlib.Core.List.{List, [], _∷_, List·Memᴰ, List·Memᴰ·not-nil}
 use native.Mathlib.Omega.{arith}
 use borrow.Author.Tests.{leb-true, leb-false, ltb-false}
 use lib.Dec.{eqb, ltb, leb}
-use lib.ListN.{length}
-use Rattle.packing.specs.Prelude.{if_then_else_, total, Opening, SizeClass, A, B1, B2, X, Command, Outcome}
+use lib.ListN.{length, length-map}
+use Rattle.packing.specs.Prelude.{if_then_else_, total, any, Opening, SizeClass, A, B1, B2, X, Command, Outcome}
 use Rattle.packing.specs.Bins.{Item, Bin, Packing, empty, opened, load, add, kind, holdsA}
 use Rattle.packing.specs.Placing.{toClass, besideA, classOf, firstFit, targetOf, permitted, target, hasSpace, takes, binFor, spent, placed}
+use Rattle.packing.specs.Withdrawing.{isNamed, emptiedOf, without}
 use Rattle.packing.specs.Run.{item, Step, packing}
 use Rattle.packing.specs.Claims.{mayLieIn, SoundBin}
-use Rattle.packing.proofs.Tests.{clash, both-true, each-cons}
+use Rattle.packing.proofs.Tests.{clash, both-true, each-cons, each-map, each-keep}
 use Rattle.packing.proofs.Putting.{fresh, put-length, put-each}
-use Rattle.packing.proofs.Moves.{Move, places, stays, Trace, ends, moves, trace}
+use Rattle.packing.proofs.Weights.{total-split}
+use Rattle.packing.proofs.Moves.{Move, places, withdraws, counts, refuses, Trace, ends, moves, trace}
 
 -- First fit passes no more bins than there are.
 pub first-few : (test : Bin → Bool) (bins : List Bin) → firstFit test bins ≤ length bins
@@ -25,6 +27,16 @@ first-few test (b ∷ bs) = go (test b) (first-few test bs)
     go : (t : Bool) → firstFit test bs ≤ length bs → (if t then 0 else suc (firstFit test bs)) ≤ suc (length bs)
     go true r = omega arith
     go false r = omega arith
+
+-- It stops where one passes the test.
+pub first-any : (test : Bin → Bool) (bins : List Bin) → any test bins ≡ true → firstFit test bins < length bins
+unfolding firstFit any
+first-any test [] e = absurd (false≢true e)
+first-any test (b ∷ bs) e = go (test b) e (first-any test bs)
+  where
+    go : (t : Bool) → (t || any test bs) ≡ true → (any test bs ≡ true → firstFit test bs < length bs) → (if t then 0 else suc (firstFit test bs)) < suc (length bs)
+    go true h r = omega arith
+    go false h r = omega (arith, r h)
 
 module _ (o : Opening) where
   -- An item mayLieIn to the class of a bin that it is permitted to join, and to the class of the bin that is opened for it.
@@ -70,7 +82,6 @@ module _ (o : Opening) where
         let both = both-true (permitted o (target o p i) b) (hasSpace o p i b) t in
         record {
           not-overfull = omega (arith, leb-true (load b + i .size) (o .capacity) (both .1));
-          filled = omega arith;
           from-class-1 = h .from-class-1;
           to-class-4 = h .to-class-4;
           in-class = each-cons (λ j. mayLieIn (kind o j) (b .class) ≡ true) (joins-its-class (p .b2s) (kind o i) b (both .0)) (h .in-class);
@@ -81,7 +92,6 @@ module _ (o : Opening) where
     sound-opened l =
         record {
           not-overfull = omega arith;
-          filled = omega arith;
           from-class-1 = opens-class (p .b2s) (kind o i) .0;
           to-class-4 = opens-class (p .b2s) (kind o i) .1;
           in-class =
@@ -103,26 +113,51 @@ module _ (o : Opening) where
         go true false x y e = omega (arith, leb-false (o .stock) (opened p) y, first-few (takes o p i) (p .bins))
         go false b x y e = omega (arith, ltb-false (opened p) (binFor o p i) x)
 
+  -- So is every bin, once an item is placed that a bin can hold.
+  pub sound-placed : (p : Packing) (i : Item) → i .size ≤ o .capacity → ((b : Bin) → List·Memᴰ b (p .bins) → SoundBin o b)
+      → (b : Bin) → List·Memᴰ b (placed o p i .bins) → SoundBin o b
+  unfolding placed
+  sound-placed p i l h = put-each (takes o p i) (fresh (classOf (target o p i))) i (SoundBin o) (sound-joined p i) (sound-opened p i l) (p .bins) h
+
+  -- And once one is taken out: a bin may be emptied, and keeps its class.
+  sound-less : (named : ℕ) (b : Bin) → SoundBin o b → SoundBin o (emptiedOf named b)
+  sound-less named b h =
+      record {
+        not-overfull = omega (arith, h .not-overfull, total-split (λ i. i .size) (isNamed named) (b .items));
+        from-class-1 = h .from-class-1;
+        to-class-4 = h .to-class-4;
+        in-class = each-keep (λ i. not (isNamed named i)) (λ i. mayLieIn (kind o i) (b .class) ≡ true) (b .items) (h .in-class);
+      }
+
+  pub sound-without : (named : ℕ) (p : Packing) → ((b : Bin) → List·Memᴰ b (p .bins) → SoundBin o b) → (b : Bin) → List·Memᴰ b (without named p .bins) → SoundBin o b
+  unfolding without
+  sound-without named p h = each-map (emptiedOf named) (SoundBin o) (p .bins) (λ b m. sound-less named b (h b m))
+
   pub record Reached (p : Packing) : Type 0 where
     pub bins-sound : (b : Bin) → List·Memᴰ b (p .bins) → SoundBin o b
     pub stock-lasts : opened p ≤ o .stock
 
-  reached-empty : Reached empty
+  pub reached-empty : Reached empty
   reached-empty = record { bins-sound = λ b m. absurd (List·Memᴰ·not-nil m); stock-lasts = omega arith }
 
-  -- Every move keeps it.
-  pub reached-move : {p q : Packing} {c : Command} {a : Outcome} → Move o p c a q → Reached p → Reached q
-  unfolding placed
-  reached-move (stays e) h = h
-  reached-move {p = p} (places {s = s} d) h =
-      let i = item s in
+  -- Taking an item out closes no bin.
+  pub opened-without : (named : ℕ) (p : Packing) → opened (without named p) ≡ opened p
+  unfolding without
+  opened-without named p = length-map (p .bins) (emptiedOf named)
+
+  pub reached-move : {p q : Packing} {n : ℕ} {c : Command} {a : Outcome} → Move o p n c a q → Reached p → Reached q
+  reached-move {p = p} {n = n} (places {s = s} d) h =
+      let i = item n s in
       record {
-        bins-sound =
-            put-each (takes o p i) (fresh (classOf (target o p i))) i (SoundBin o) (sound-joined p i) (sound-opened p i (d .within-capacity)) (p .bins) (h .bins-sound);
+        bins-sound = sound-placed p i (d .within-capacity) (h .bins-sound);
         stock-lasts = omega (arith, opened-placed p i, in-stock p i (d .not-spent) (h .stock-lasts));
       }
+  reached-move {p = p} (withdraws {named = named} e) h =
+      record { bins-sound = sound-without named p (h .bins-sound); stock-lasts = omega (arith, opened-without named p, h .stock-lasts) }
+  reached-move counts h = h
+  reached-move (refuses z) h = h
 
-  trace-reached : {p q : Packing} {ts : List Step} → Trace o p ts q → Reached p → Reached q
+  trace-reached : {n : ℕ} {p q : Packing} {ts : List Step} → Trace o n p ts q → Reached p → Reached q
   trace-reached ends h = h
   trace-reached (moves m r) h = trace-reached r (reached-move m h)
 

@@ -68,5 +68,5 @@ module _ (o : Opening) (p : Packing) (i : Item) where
       (decides o p i _
       (is-spent (h .some) (h .within-capacity) (rw (lt-ltb (opened p) (binFor o p i) (omega arith), le-leb (o .stock) (opened p) (h .all-opened)))))
 
-pub spent-exactly : (o : Opening) (p : Packing) (s : ℕ) → SpentExactly o p s
-spent-exactly o p s = (spent-only o p (item s) (decision o p (item s)) (decided o p (item s)), spent-then o p (item s))
+pub spent-exactly : (o : Opening) (p : Packing) (n s : ℕ) → SpentExactly o p n s
+spent-exactly o p n s = (spent-only o p (item n s) (decision o p (item n s)) (decided o p (item n s)), spent-then o p (item n s))

@@ -2,16 +2,18 @@
 use Rattle.packing.specs.Prelude.{ℕ, zero, suc, _-_, Bool, List, [], _∷_, map, length, getD, total, any, Opening, SizeClass}
 use Rattle.packing.specs.SizeClasses.{sizeClass, isA}
 
--- A master has a whole number of units.
+-- A master: the number of the command that shelved it, and its whole number of units.
 pub record Item : Type 0 where
+  pub command : ℕ
   pub size : ℕ
 
--- A cartridge keeps its class, 1 to 4. The last item stands first.
+-- A cartridge keeps its class, 1 to 4, also when it is emptied. The last item stands first.
 pub record Bin : Type 0 where
   pub class : ℕ
   pub items : List Item
 
--- Bins are numbered 1, 2, 3 and so on in order of opening, whatever their class. The B2 items accepted so far are counted, in both classes together.
+-- Bins are numbered 1, 2, 3 and so on in order of opening, whatever their class. The B2 items accepted so far are counted, in both classes together;
+-- "the B2 count never goes back".
 pub record Packing : Type 0 where
   pub bins : List Bin
   pub b2s : ℕ

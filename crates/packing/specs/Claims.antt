@@ -1,16 +1,19 @@
 -- What is promised of the model, as statements; ../proofs shows each of every opening and every list of commands. Demand 3 and the plan of a packing's
 -- own answers are stated in the crate worst_case.
-use Rattle.packing.specs.Prelude.{ℕ, suc, _+_, _*_, _≤_, _<_, min, _≡_, _↔_, Bool, true, _||_, List, [], _∷_, _++_, map, zipWith, reverse, length, take, drop, List·Memᴰ, total, any, _=?_}
-use Rattle.packing.specs.Prelude.{Opening, SizeClass, A, B1, B2, X, Command, Shelve, Count, Outcome, Placed, Refused, ItemReason, StockSpent, Entry, StreamResult, PlanResult}
-use Rattle.packing.specs.Refusals.{word, freeUnits, outcomeOf, figures, streamGives, planGives}
+use Rattle.packing.specs.Prelude.{ℕ, suc, _+_, _*_, _≤_, _<_, min, _≡_, _↔_, Bool, true, false, _||_}
+use Rattle.packing.specs.Prelude.{List, [], _∷_, _++_, map, zipWith, flatten, reverse, length, take, drop, List·Memᴰ, total, any, keep, _=?_}
+use Rattle.packing.specs.Prelude.{Opening, SizeClass, A, B1, B2, X, Command, Shelve, Count, Withdraw, Outcome, Placed, Withdrawn, Refused, ItemReason, StockSpent, NotShelved}
+use Rattle.packing.specs.Prelude.{StreamResult, PlanResult}
+use Rattle.packing.specs.Refusals.{isRefused, isPlaced, binsNamed, word, freeUnits, outcomeOf, figures, streamGives, planGives}
+use Rattle.packing.specs.SizeClasses.{sizeClass, countB2}
 use Rattle.packing.specs.Bins.{Item, Bin, Packing, opened, load, itemsOf, kind}
 use Rattle.packing.specs.Placing.{permitted, target, takes}
 use Rattle.packing.specs.Limits.{openingGood, mostCommands}
 use Rattle.packing.specs.Streams.{openingLength, openingOf, behindOpening, accepted, commands, verdict}
-use Rattle.packing.specs.Run.{item, answerTo, next, packing, outcomes, answers, placements, result}
+use Rattle.packing.specs.Run.{item, Step, answerTo, next, run, packing, outcomes, answers, placements, stillShelved, result}
 use Rattle.packing.specs.Counting.{stockPlaces, walk}
-use Rattle.packing.specs.Compared.{acceptedSizes, numberOpened, sizesIn}
-use Rattle.packing.specs.LeftOut.{kept, outcomesKept}
+use Rattle.packing.specs.Compared.{acceptedSizes, numberOpened, noneOut, shelfPlan, shelvedSizes, sizesIn}
+use Rattle.packing.specs.LeftOut.{notRefused, changes, newNumber, resent, outcomesKept, renumbered, renumberedShelved}
 
 -- The inequalities of each size class: the tests before it failed.
 abbrev pub Bounds : (c s : ℕ) → SizeClass → Type 0
@@ -26,10 +29,9 @@ mayLieIn B1 n = n =? 2
 mayLieIn B2 n = (n =? 1) || (n =? 3)
 mayLieIn X n = n =? 4
 
--- What every bin is that was ever opened.
+-- What every bin is that was ever opened; it may have been emptied.
 pub record SoundBin (o : Opening) (b : Bin) : Type 0 where
   pub not-overfull : load b ≤ o .capacity
-  pub filled : 1 ≤ length (b .items)
   pub from-class-1 : 1 ≤ b .class
   pub to-class-4 : b .class ≤ 4
   pub in-class : (i : Item) → List·Memᴰ i (b .items) → mayLieIn (kind o i) (b .class) ≡ true
@@ -45,44 +47,97 @@ pub record FreeOf (o : Opening) (p : Packing) (number free : ℕ) : Type 0 where
   pub with-load : free + load bin ≡ o .capacity
   pub takes-up-to : (i : Item) → permitted o (target o p i) bin ≡ true → (takes o p i bin ≡ true) ↔ (i .size ≤ free)
 
+-- The bin answered to an item takes it, and no lower one does: "the lowest permitted cartridge with space under the loads then present". If none takes
+-- it, it is a new one.
+pub record Lowest (o : Opening) (p : Packing) (i : Item) (bin : ℕ) : Type 0 where
+  pub lower : ℕ
+  pub numbered : bin ≡ suc lower
+  pub at-most-new : bin ≤ suc (opened p)
+  pub none-lower : (b : Bin) → List·Memᴰ b (take lower (p .bins)) → takes o p i b ≡ false
+  pub takes-it : (b : Bin) (later : List Bin) → drop lower (p .bins) ≡ b ∷ later → takes o p i b ≡ true
+
+-- A step shelved the item of this number in this bin.
+pub record ShelvedIn (ts : List Step) (number bin : ℕ) : Type 0 where
+  pub step : Step
+  pub among : List·Memᴰ step ts
+  pub of-number : step .number ≡ number
+  pub placed : isPlaced (step .outcome) ≡ true
+  pub its-bin : binsNamed (step .outcome) ≡ bin ∷ []
+
+-- The item of this number is on the shelf, by the answers alone: a step shelved it, and none took it out.
+pub record OnShelf (ts : List Step) (named : ℕ) : Type 0 where
+  pub bin : ℕ
+  pub shelved : ShelvedIn ts named bin
+  pub not-out : (t : Step) → List·Memᴰ t ts → t .command ≡ Withdraw named → isRefused (t .outcome) ≡ true
+
+-- The classes of the bins, by number.
+abbrev pub classesOf : Packing → List ℕ
+classesOf p = map (λ b. b .class) (p .bins)
+
 module _ (o : Opening) (cs : List Command) where
-  -- After each command bin n holds the items answered n, in the stream's order, and no others. (The last item of a bin stands first.)
+  -- After each command bin n holds the items still shelved that were answered n, in the stream's order, and no others. (The last item of a bin stands
+  -- first.)
   abbrev pub HoldsAnswered : Type 0
-  HoldsAnswered = (j n : ℕ) → map (λ i. i .size) (itemsOf n (packing o (take j cs))) ≡ reverse (sizesIn n (placements o (take j cs)))
+  HoldsAnswered = (j n : ℕ) → itemsOf n (packing o (take j cs)) ≡ reverse (map (λ s. s .item) (keep (λ s. s .bin =? n) (stillShelved o (take j cs))))
 
   pub record NeverOverfull : Type 0 where
-    -- After each command the items answered n are together no larger than the capacity, whatever the number n.
-    pub shown : (j n : ℕ) → total (sizesIn n (placements o (take j cs))) ≤ o .capacity
-    -- Nor does the load of a bin exceed it; every bin has its class, 1 to 4, and at least one item.
+    -- After each command the items still shelved that were answered n are together no larger than the capacity, whatever the number n.
+    pub shown : (j n : ℕ) → total (sizesIn n (shelfPlan o (take j cs))) ≤ o .capacity
+    -- Nor does the load of a bin exceed it; every bin has its class, 1 to 4.
     pub bins : (j : ℕ) (b : Bin) → List·Memᴰ b (packing o (take j cs) .bins) → SoundBin o b
 
-  -- Where command j + 1 is answered by a bin and its free units, these are that bin's after every command up to which the items answered its number are
-  -- the same: from that command on, until the bin is answered again.
+  -- Each item goes to the lowest permitted bin with space under the loads then present.
+  abbrev pub LowestPermitted : Type 0
+  LowestPermitted =
+      (j size bin free : ℕ) (later : List Command) (others : List Outcome) → drop j cs ≡ Shelve size ∷ later
+      → drop j (outcomes o cs) ≡ Placed bin free ∷ others → Lowest o (packing o (take j cs)) (item (suc j) size) bin
+
+  -- Where command j + 1 is answered by a bin and its free units, these are that bin's after every command up to which it is opened and the items still
+  -- shelved that were answered its number are the same: from that command on, until an item goes there or leaves it.
   abbrev pub FreeUnits : Type 0
   FreeUnits =
-      (j i bin free : ℕ) (later : List Outcome) → drop j (outcomes o cs) ≡ Placed bin free ∷ later
-      → sizesIn bin (placements o (take i cs)) ≡ sizesIn bin (placements o (take (suc j) cs)) → FreeOf o (packing o (take i cs)) bin free
+      (j i bin : ℕ) (a : Outcome) (later : List Outcome) → drop j (outcomes o cs) ≡ a ∷ later → binsNamed a ≡ bin ∷ []
+      → bin ≤ numberOpened o (take i cs) → sizesIn bin (shelfPlan o (take i cs)) ≡ sizesIn bin (shelfPlan o (take (suc j) cs))
+      → FreeOf o (packing o (take i cs)) bin (freeUnits a)
 
-  -- The loads always add up to the sizes of the accepted items.
+  -- The loads always add up to the sizes of the items still shelved.
   abbrev pub LoadsAddUp : Type 0
-  LoadsAddUp = (j : ℕ) → total (map load (packing o (take j cs) .bins)) ≡ total (acceptedSizes o (take j cs))
+  LoadsAddUp = (j : ℕ) → total (map load (packing o (take j cs) .bins)) ≡ total (shelvedSizes o (take j cs))
+
+  -- Where no withdrawal is accepted, the items still shelved are those accepted.
+  abbrev pub OneList : Type 0
+  OneList = noneOut o cs ≡ true → shelfPlan o cs ≡ placements o cs
+
+  pub record Withdrawals : Type 0 where
+    -- Refused with 17 exactly when the item named is not on the shelf.
+    pub exactly : (j named : ℕ) (later : List Command) → drop j cs ≡ Withdraw named ∷ later
+        → (take 1 (drop j (outcomes o cs)) ≡ Refused NotShelved ∷ []) ↔ (OnShelf (take j (run o cs)) named → ⊥)
+    -- Any other answers the very bin that the command it names was answered.
+    pub same-bin : (j named bin free : ℕ) (later : List Command) (others : List Outcome) → drop j cs ≡ Withdraw named ∷ later
+        → drop j (outcomes o cs) ≡ Withdrawn bin free ∷ others → ShelvedIn (take j (run o cs)) named bin
+    -- "The B2 count never goes back": it is of all items accepted, whatever became of them.
+    pub b2-count : (j : ℕ) → packing o (take j cs) .b2s ≡ total (map (λ s. countB2 (sizeClass (o .capacity) s)) (acceptedSizes o (take j cs)))
+    -- "An emptied cartridge stays opened, keeps its number and class": the classes by number are those of before, and then some.
+    pub classes-stay : (i j : ℕ) → take (opened (packing o (take i cs))) (classesOf (packing o (take (i + j) cs))) ≡ classesOf (packing o (take i cs))
 
   -- The answers to the first j commands depend on the opening and those j alone.
   abbrev pub Prefix : Type 0
   Prefix = (j : ℕ) → take j (answers o cs) ≡ answers o (take j cs)
 
-  -- The accepted items lie as they would if the refused ones had not been sent, and every other command is answered as it was; so they do if the
-  -- accepted items alone had been sent.
-  pub record RefusedLeftOut : Type 0 where
-    pub same-packing : packing o (kept o cs) ≡ packing o cs
-    pub same-outcomes : outcomes o (kept o cs) ≡ outcomesKept o cs
-    pub alone-packing : packing o (map Shelve (acceptedSizes o cs)) ≡ packing o cs
-    pub alone-bins : placements o (map Shelve (acceptedSizes o cs)) ≡ placements o cs
+  -- The commands that are kept, each naming the item that it named, are answered as they were, and leave the items as they lay, under their new numbers.
+  pub record SameWithout (kept : Step → Bool) : Type 0 where
+    pub same-outcomes : outcomes o (resent kept (run o cs)) ≡ outcomesKept kept (run o cs)
+    pub same-packing : packing o (resent kept (run o cs)) ≡ renumbered (newNumber kept (run o cs)) (packing o cs)
+    pub same-shelved : stillShelved o (resent kept (run o cs)) ≡ map (renumberedShelved (newNumber kept (run o cs))) (stillShelved o cs)
 
-  -- A bin number answered is at most the number opened, which is at most the stock.
+  -- So it is if the refused commands had not been sent; and if the accepted items and withdrawals alone had been sent.
+  pub record RefusedLeftOut : Type 0 where
+    pub refused : SameWithout notRefused
+    pub alone : SameWithout changes
+
+  -- After each command every bin number answered by then is from 1 to the number opened, which is at most the stock.
   pub record AnswersInRange : Type 0 where
-    pub from-one : (e : Entry) → List·Memᴰ e (placements o cs) → 1 ≤ e .bin
-    pub to-opened : (e : Entry) → List·Memᴰ e (placements o cs) → e .bin ≤ numberOpened o cs
+    pub named : (j bin : ℕ) → List·Memᴰ bin (flatten (map binsNamed (outcomes o (take j cs)))) → (1 ≤ bin) × (bin ≤ numberOpened o (take j cs))
     pub to-stock : numberOpened o cs ≤ o .stock
 
   -- A count answered equals the number opened there, and so does, after the last command, the total returned. "Opened ones have no gaps among them":
@@ -91,7 +146,7 @@ module _ (o : Opening) (cs : List Command) where
     pub bins : opened (packing o cs) ≡ numberOpened o cs
     pub no-gaps : (j n : ℕ) → (any (λ e. e .bin =? n) (placements o (take j cs)) ≡ true) ↔ ((1 ≤ n) × (n ≤ numberOpened o (take j cs)))
     pub answered : (j : ℕ) (later : List Command) → drop j cs ≡ Count ∷ later → take 1 (drop j (map word (outcomes o cs))) ≡ numberOpened o (take j cs) ∷ []
-    pub returned : streamGives (result (accepted o cs)) ≡ figures (length (acceptedSizes o cs) ∷ numberOpened o cs ∷ [])
+    pub returned : streamGives (result (accepted o cs)) ≡ figures (length (shelvedSizes o cs) ∷ numberOpened o cs ∷ [])
 
   -- After each command the walk over the places of the stock finds the number opened, and has read "the lesser of the stock and the figure plus one".
   abbrev pub EarlyCount : Type 0
@@ -134,9 +189,9 @@ pub record Spent (o : Opening) (p : Packing) (i : Item) : Type 0 where
   pub all-opened : o .stock ≤ opened p
 
 -- Refused with 10 exactly then; in the order 8, 9, 10 the other two are refused before.
-abbrev pub SpentExactly : Opening → Packing → (size : ℕ) → Type 0
-SpentExactly o p s = (answerTo o p (Shelve s) ≡ Refused StockSpent) ↔ Spent o p (item s)
+abbrev pub SpentExactly : Opening → Packing → (number size : ℕ) → Type 0
+SpentExactly o p n s = (answerTo o p n (Shelve s) ≡ Refused StockSpent) ↔ Spent o p (item n s)
 
 -- A refused command changes nothing.
-abbrev pub RefusedChangesNothing : Opening → Packing → Command → Type 0
-RefusedChangesNothing o p c = (reason : ItemReason) → answerTo o p c ≡ Refused reason → next o p c ≡ p
+abbrev pub RefusedChangesNothing : Opening → Packing → (number : ℕ) → Command → Type 0
+RefusedChangesNothing o p n c = (reason : ItemReason) → answerTo o p n c ≡ Refused reason → next o p n c ≡ p

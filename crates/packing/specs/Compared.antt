@@ -1,6 +1,8 @@
--- "What demand 3 compares", after a list of commands: the accepted items and the number opened on one side, the bins that a plan uses on the other.
-use Rattle.packing.specs.Prelude.{ℕ, _+_, List, [], _∷_, map, greatest, any, keep, _=?_, if_then_else_, Opening, Command, Entry}
-use Rattle.packing.specs.Run.{placements}
+-- "What demand 3 compares", after a list of commands: the accepted items and the number opened on one side, the bins that a plan uses on the other. And
+-- the shelf's own plan, which is of the items still shelved.
+use Rattle.packing.specs.Prelude.{ℕ, _+_, Bool, not, List, [], _∷_, map, greatest, any, keep, _=?_, if_then_else_, Opening, Command, Entry}
+use Rattle.packing.specs.Refusals.{isWithdrawn}
+use Rattle.packing.specs.Run.{entryOf, outcomes, placements, stillShelved}
 
 module _ (o : Opening) (cs : List Command) where
   -- "The accepted masters": the sizes, in the stream's order, of the commands that shelve an item and are not refused.
@@ -10,6 +12,17 @@ module _ (o : Opening) (cs : List Command) where
   -- "The number opened": the greatest bin number answered to these items, or 0 if there are none.
   abbrev pub numberOpened : ℕ
   numberOpened = greatest (map (λ e. e .bin) (placements o cs))
+
+  -- "The 5k + 15 figure is for streams without withdrawals": none that is accepted. A refused one takes nothing out.
+  abbrev pub noneOut : Bool
+  noneOut = not (any isWithdrawn (outcomes o cs))
+
+  -- "The loads' sum and the shelf's plan are of masters still shelved": each with the bin that it was answered, in the order of their commands.
+  abbrev pub shelfPlan : List Entry
+  shelfPlan = map entryOf (stillShelved o cs)
+
+  abbrev pub shelvedSizes : List ℕ
+  shelvedSizes = map (λ e. e .size) shelfPlan
 
 -- The sizes of the entries with bin number n, in their order.
 abbrev pub sizesIn : (n : ℕ) → List Entry → List ℕ

@@ -1,14 +1,45 @@
--- The commands of a run without the refused ones.
-use Rattle.packing.specs.Prelude.{Bool, not, List, map, keep, Opening, Command, Outcome}
-use Rattle.packing.specs.Refusals.{isRefused}
-use Rattle.packing.specs.Run.{Step, run}
+-- A run with some of its commands left out: "every other refused command is left out too, and one that names a master is taken to name the same one".
+use Rattle.packing.specs.Prelude.{ℕ, Bool, not, _||_, _&&_, List, map, length, keep, _≤?_, Command, Shelve, Count, Withdraw, Outcome}
+use Rattle.packing.specs.Refusals.{isRefused, isPlaced, isWithdrawn}
+use Rattle.packing.specs.Bins.{Item, Bin, Packing}
+use Rattle.packing.specs.Run.{Shelved, Step}
 
-abbrev pub isKept : Step → Bool
-isKept t = not (isRefused (t .outcome))
+-- Those that are not refused.
+abbrev pub notRefused : Step → Bool
+notRefused t = not (isRefused (t .outcome))
 
-abbrev pub kept : Opening → List Command → List Command
-kept o cs = map (λ t. t .command) (keep isKept (run o cs))
+-- Those that shelve an item or take one out: counts are left out too.
+abbrev pub changes : Step → Bool
+changes t = isPlaced (t .outcome) || isWithdrawn (t .outcome)
 
--- What these came to, among the others.
-abbrev pub outcomesKept : Opening → List Command → List Outcome
-outcomesKept o cs = map (λ t. t .outcome) (keep isKept (run o cs))
+-- The command with the number that it names replaced.
+abbrev pub renamed : (ℕ → ℕ) → Command → Command
+renamed f (Shelve s) = Shelve s
+renamed f Count = Count
+renamed f (Withdraw named) = Withdraw (f named)
+
+module _ (kept : Step → Bool) (ts : List Step) where
+  -- The number that a command has when only these are kept: of so many up to it, it is the last.
+  abbrev pub newNumber : ℕ → ℕ
+  newNumber n = length (keep (λ t. kept t && (t .number ≤? n)) ts)
+
+  -- The commands that are kept, each naming the item that it named.
+  abbrev pub resent : List Command
+  resent = map (λ t. renamed newNumber (t .command)) (keep kept ts)
+
+  abbrev pub outcomesKept : List Outcome
+  outcomesKept = map (λ t. t .outcome) (keep kept ts)
+
+-- Items, and packings, under other command numbers: sizes, bins, classes and the B2 count are the same.
+module _ (f : ℕ → ℕ) where
+  abbrev pub renumber : Item → Item
+  renumber i = record { command = f (i .command); size = i .size }
+
+  abbrev pub renumberedBin : Bin → Bin
+  renumberedBin b = record { class = b .class; items = map renumber (b .items) }
+
+  abbrev pub renumbered : Packing → Packing
+  renumbered p = record { bins = map renumberedBin (p .bins); b2s = p .b2s }
+
+  abbrev pub renumberedShelved : Shelved → Shelved
+  renumberedShelved s = record { item = renumber (s .item); bin = s .bin }

@@ -5,6 +5,7 @@ pub mod Refusals
 pub mod SizeClasses
 pub mod Bins
 pub mod Placing
+pub mod Withdrawing
 pub mod Streams
 pub mod Run
 pub mod Counting

@@ -1,6 +1,6 @@
 -- "What a refusal gives": the number of each refusal, the answer word of an outcome, and what a result gives in document 01's numbers.
-use Rattle.packing.specs.Prelude.{ℕ, _+_, _-_, Bool, true, false, List, [], _∷_, _=?_, _<?_, if_then_else_, Command, Shelve, Count, StreamResult, PlanResult}
-use Rattle.packing.specs.Prelude.{Outcome, Placed, Counted, Refused, ItemReason, SizeZero, AboveCapacity, StockSpent}
+use Rattle.packing.specs.Prelude.{ℕ, _+_, _-_, Bool, true, false, List, [], _∷_, _=?_, _<?_, if_then_else_, Command, Shelve, Count, Withdraw, StreamResult, PlanResult}
+use Rattle.packing.specs.Prelude.{Outcome, Placed, Counted, Withdrawn, Refused, ItemReason, SizeZero, AboveCapacity, StockSpent, NotShelved}
 use Rattle.packing.specs.Prelude.{StreamReason, NoOpening, UnknownOpcode, CutShort, SecondOpening, OutsideLimits, TooManyCommands, TooFewWords}
 use Rattle.packing.specs.Prelude.{PlanReason, CapacityOutside, TooLong, SizeOutside, BinOutside, Overfull, OtherItems}
 
@@ -17,6 +17,7 @@ abbrev pub itemNumber : ItemReason → ℕ
 itemNumber SizeZero = 8
 itemNumber AboveCapacity = 9
 itemNumber StockSpent = 10
+itemNumber NotShelved = 17
 
 abbrev pub planNumber : PlanReason → ℕ
 planNumber CapacityOutside = 11
@@ -29,35 +30,59 @@ planNumber OtherItems = 16
 abbrev pub isRefused : Outcome → Bool
 isRefused (Placed bin free) = false
 isRefused (Counted opened) = false
+isRefused (Withdrawn bin free) = false
 isRefused (Refused reason) = true
 
--- "Word n holds the cartridge number or the count for command n, or 32,768 plus the refusal number."
+abbrev pub isPlaced : Outcome → Bool
+isPlaced (Placed bin free) = true
+isPlaced (Counted opened) = false
+isPlaced (Withdrawn bin free) = false
+isPlaced (Refused reason) = false
+
+abbrev pub isWithdrawn : Outcome → Bool
+isWithdrawn (Placed bin free) = false
+isWithdrawn (Counted opened) = false
+isWithdrawn (Withdrawn bin free) = true
+isWithdrawn (Refused reason) = false
+
+-- The numbers of the bins that an answer names: one, if an item went there or left it.
+abbrev pub binsNamed : Outcome → List ℕ
+binsNamed (Placed bin free) = bin ∷ []
+binsNamed (Counted opened) = []
+binsNamed (Withdrawn bin free) = bin ∷ []
+binsNamed (Refused reason) = []
+
+-- "Word n holds the cartridge number or the count for command n, or 32,768 plus the refusal number." A withdrawal "answers the cartridge it left".
 abbrev pub word : Outcome → ℕ
 word (Placed bin free) = bin
 word (Counted opened) = opened
+word (Withdrawn bin free) = bin
 word (Refused reason) = 32_768 + itemNumber reason
 
--- "Each answer carries the free units left on the named cartridge just after the master, and 0 for counted or refused."
+-- "Each answer carries the free units left on the named cartridge just after the master, and 0 for counted or refused"; for a withdrawal "the second
+-- row gives the free units left on that cartridge".
 abbrev pub freeUnits : Outcome → ℕ
 freeUnits (Placed bin free) = free
 freeUnits (Counted opened) = 0
+freeUnits (Withdrawn bin free) = free
 freeUnits (Refused reason) = 0
 
--- The refusal of an item that has this number.
+-- The refusal of a command that has this number.
 abbrev pub itemReason : (number : ℕ) → ItemReason
-itemReason n = if n =? 8 then SizeZero else if n =? 9 then AboveCapacity else StockSpent
+itemReason n = if n =? 8 then SizeZero else if n =? 9 then AboveCapacity else if n =? 10 then StockSpent else NotShelved
 
 -- The outcome that a word and the free units beside it stand for. The word alone does not tell a bin's number from a count: the command does.
 abbrev pub outcomeOf : Command → (word free : ℕ) → Outcome
 outcomeOf (Shelve size) w free = if w <? 32_768 then Placed w free else Refused (itemReason (w - 32_768))
 outcomeOf Count w free = Counted w
+outcomeOf (Withdraw named) w free = if w <? 32_768 then Withdrawn w free else Refused (itemReason (w - 32_768))
 
 -- What a call returns, in document 01's numbers: its figures; or the number of a refusal, with its offset or its place.
 pub data Returned : Type 0 where
   figures : List ℕ → Returned
   refusal : (number place : ℕ) → Returned
 
--- "An accepted stream returns the masters accepted and the cartridges opened."
+-- "An accepted stream returns the masters accepted and the cartridges opened": of the masters "those returned … are of masters still shelved".
 abbrev pub streamGives : StreamResult → Returned
 streamGives (StreamResult.Accepted items opened) = figures (items ∷ opened ∷ [])
 streamGives (StreamResult.Refused reason offset) = refusal (streamNumber reason) offset

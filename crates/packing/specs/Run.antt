@@ -1,13 +1,15 @@
 -- What an accepted stream does: each command gets the packing that the one before it left, the first the empty one.
-use Rattle.packing.specs.Prelude.{ℕ, suc, List, [], _∷_, _++_, map, foldl, flatten, length, drop, if_then_else_}
-use Rattle.packing.specs.Prelude.{Opening, Command, Shelve, Count, Outcome, Placed, Counted, Refused, Answer, Entry, StreamResult}
+use Rattle.packing.specs.Prelude.{ℕ, suc, not, List, [], _∷_, _++_, map, foldl, flatten, length, drop, keep, if_then_else_}
+use Rattle.packing.specs.Prelude.{Opening, Command, Shelve, Count, Withdraw, Outcome, Placed, Counted, Withdrawn, Refused, Answer, Entry, StreamResult}
 use Rattle.packing.specs.Refusals.{isRefused}
 use Rattle.packing.specs.Bins.{Item, Packing, empty, opened, freeOn}
 use Rattle.packing.specs.Placing.{Decision, into, refusing, decision, placed}
+use Rattle.packing.specs.Withdrawing.{isNamed, without, withdrawal}
 use Rattle.packing.specs.Streams.{Read, accepted, refused}
 
-abbrev pub item : ℕ → Item
-item size = record { size = size }
+-- The item that the command of this number shelves.
+abbrev pub item : (number size : ℕ) → Item
+item number size = record { command = number; size = size }
 
 -- What is decided of an item, as it is answered: with its bin, the free units that it leaves there. (The packing is the one with the item.)
 abbrev pub told : Opening → Packing → Decision → Outcome
@@ -22,43 +24,75 @@ pub record Step : Type 0 where
   pub outcome : Outcome
 
 module _ (o : Opening) where
-  abbrev pub answerTo : Packing → Command → Outcome
-  answerTo p (Shelve s) = told o (placed o p (item s)) (decision o p (item s))
-  answerTo p Count = Counted (opened p)
+  abbrev pub answerTo : Packing → (number : ℕ) → Command → Outcome
+  answerTo p n (Shelve s) = told o (placed o p (item n s)) (decision o p (item n s))
+  answerTo p n Count = Counted (opened p)
+  answerTo p n (Withdraw named) = withdrawal o p named
 
   -- What a command does, if it is not refused.
-  abbrev pub done : Packing → Command → Packing
-  done p (Shelve s) = placed o p (item s)
-  done p Count = p
+  abbrev pub done : Packing → (number : ℕ) → Command → Packing
+  done p n (Shelve s) = placed o p (item n s)
+  done p n Count = p
+  done p n (Withdraw named) = without named p
 
   -- A refused command changes nothing: loads, classes and the B2 count are as they were.
-  abbrev pub next : Packing → Command → Packing
-  next p c = if isRefused (answerTo p c) then p else done p c
+  abbrev pub next : Packing → (number : ℕ) → Command → Packing
+  next p n c = if isRefused (answerTo p n c) then p else done p n c
 
   unfoldable pub runFrom : Packing → (number : ℕ) → List Command → List Step
   runFrom p n [] = []
-  runFrom p n (c ∷ cs) = record { number = n; command = c; before = p; outcome = answerTo p c } ∷ runFrom (next p c) (suc n) cs
+  runFrom p n (c ∷ cs) = record { number = n; command = c; before = p; outcome = answerTo p n c } ∷ runFrom (next p n c) (suc n) cs
 
--- The size that a command shelves an item by.
+  unfoldable pub packingFrom : Packing → (number : ℕ) → List Command → Packing
+  packingFrom p n [] = p
+  packingFrom p n (c ∷ cs) = packingFrom (next p n c) (suc n) cs
+
+-- The size that a command shelves an item by, and the number that it names one by.
 abbrev pub sizeOf : Command → ℕ
 sizeOf (Shelve s) = s
 sizeOf Count = 0
+sizeOf (Withdraw named) = 0
+
+abbrev pub nameOf : Command → ℕ
+nameOf (Shelve s) = 0
+nameOf Count = 0
+nameOf (Withdraw named) = named
 
 -- A command that shelves an item and is not refused gives its size and its bin.
 abbrev pub placement : Command → Outcome → List Entry
 placement c (Placed bin free) = record { size = sizeOf c; bin = bin } ∷ []
 placement c (Counted opened) = []
+placement c (Withdrawn bin free) = []
 placement c (Refused reason) = []
 
--- The commands after the opening are numbered from 1; an answer joins the command's number with placed, counted or refused.
+-- An item on the shelf, as the answers tell of it: with the bin that it was answered.
+pub record Shelved : Type 0 where
+  pub item : Item
+  pub bin : ℕ
+
+abbrev pub entryOf : Shelved → Entry
+entryOf s = record { size = s .item .size; bin = s .bin }
+
+-- What the answer to a command makes of the items on the shelf: one that is placed joins them as the last, and the one that is taken out leaves them.
+abbrev pub shelving : (number : ℕ) → Command → Outcome → List Shelved → List Shelved
+shelving n c (Placed bin free) on = on ++ record { item = item n (sizeOf c); bin = bin } ∷ []
+shelving n c (Counted opened) on = on
+shelving n c (Withdrawn bin free) on = keep (λ s. not (isNamed (nameOf c) (s .item))) on
+shelving n c (Refused reason) on = on
+
+-- The commands after the opening are numbered from 1; an answer joins the command's number with placed, counted, withdrawn or refused.
 abbrev pub answerOf : Step → Answer
 answerOf t = record { number = t .number; outcome = t .outcome }
 
--- Of some steps: the accepted items, each with its bin.
+-- Of some steps: the accepted items, each with its bin, whatever became of them.
 abbrev pub entriesOf : List Step → List Entry
 entriesOf ts = flatten (map (λ t. placement (t .command) (t .outcome)) ts)
 
--- After the commands cs: the run, and what is read off it: the answers, and the accepted items in the stream's order. And the packing.
+-- The items on the shelf after some steps, where these were on it before.
+abbrev pub shelvedBy : List Step → List Shelved → List Shelved
+shelvedBy ts on = foldl (λ before t. shelving (t .number) (t .command) (t .outcome) before) on ts
+
+-- After the commands cs: the run, and what is read off it: the answers, the accepted items and those still shelved, in the stream's order. And the packing.
 module _ (o : Opening) (cs : List Command) where
   abbrev pub run : List Step
   run = runFrom o empty 1 cs
@@ -72,12 +106,15 @@ module _ (o : Opening) (cs : List Command) where
   abbrev pub placements : List Entry
   placements = entriesOf run
 
-  abbrev pub packing : Packing
-  packing = foldl (next o) empty cs
+  abbrev pub stillShelved : List Shelved
+  stillShelved = shelvedBy run []
 
--- What the call returns: the items accepted and the bins opened, or the refusal.
+  abbrev pub packing : Packing
+  packing = packingFrom o empty 1 cs
+
+-- What the call returns: the items still shelved and the bins opened, or the refusal.
 abbrev pub result : Read → StreamResult
-result (accepted o cs) = StreamResult.Accepted (length (placements o cs)) (opened (packing o cs))
+result (accepted o cs) = StreamResult.Accepted (length (stillShelved o cs)) (opened (packing o cs))
 result (refused reason offset) = StreamResult.Refused reason offset
 
 -- A row at exit, by what it tells of an outcome: the answer row by `word`, the row of free units by `freeUnits`. Word n is of command n, and words past

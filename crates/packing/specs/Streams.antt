@@ -1,6 +1,6 @@
 -- "Command streams": a row of bytes is read as an opening and the commands after it, or refused.
 use Rattle.packing.specs.Prelude.{ℕ, zero, suc, _+_, _*_, min, _≡_, not, List, [], _∷_, foldl, length, take, drop, _=?_, _<?_, if_then_else_}
-use Rattle.packing.specs.Prelude.{Opening, Command, Shelve, Count, WidthRow, Width, Known, Unknown}
+use Rattle.packing.specs.Prelude.{Opening, Command, Shelve, Count, Withdraw, WidthRow, Width, Known, Unknown}
 use Rattle.packing.specs.Prelude.{StreamReason, NoOpening, UnknownOpcode, CutShort, SecondOpening, OutsideLimits, TooManyCommands, TooFewWords}
 use Rattle.packing.specs.Limits.{openingGood, mostCommands}
 
@@ -22,6 +22,7 @@ widths =
     record { opcode = 0x01; width = openingWidth } ∷
     record { opcode = 0x02; width = 4 } ∷
     record { opcode = 0x03; width = 0 } ∷
+    record { opcode = 0x04; width = 2 } ∷
     []
 
 unfoldable pub lookup : ℕ → List WidthRow → Width
@@ -37,7 +38,7 @@ openingOf s = record { capacity = operand 0 4 s; stock = operand 4 2 s; m = oper
 
 -- the command of an opcode that is in the table and is no opening
 abbrev pub commandOf : ℕ → List ℕ → Command
-commandOf b s = if b =? 0x02 then Shelve (operand 0 4 s) else Count
+commandOf b s = if b =? 0x02 then Shelve (operand 0 4 s) else if b =? 0x04 then Withdraw (operand 0 2 s) else Count
 
 -- What stands at the front of a stream after the opening: a whole command and its operand width, or a fault.
 pub data Front : Type 0 where

@@ -1,14 +1,15 @@
 -- "Worked shelves": the cases marked ● make one table, proved together by one theorem that computes over it.
-use Rattle.packing.specs.Prelude.{ℕ, _+_, _*_, _≡_, refl, Bool, true, List, [], _∷_, _++_, map, zipWith, flatten, replicate, total, greatest, any, _≤?_}
-use Rattle.packing.specs.Prelude.{Opening, SizeClass, A, B1, B2, X, Shelve, StreamResult, PlanResult, Overfull}
+use Rattle.packing.specs.Prelude.{ℕ, _+_, _*_, _≡_, refl, Bool, true, false, List, [], _∷_, _++_, map, zipWith, flatten, replicate, total, greatest, any, keep, _≤?_}
+use Rattle.packing.specs.Prelude.{Opening, SizeClass, A, B1, B2, X, Command, Shelve, Count, Withdraw, StreamResult, PlanResult, Overfull}
 use Rattle.packing.specs.Refusals.{word, freeUnits}
 use Rattle.packing.specs.SizeClasses.{sizeClass}
 use Rattle.packing.specs.Placing.{firstFit, put, decision, placed}
 use Rattle.packing.specs.Streams.{widths, lookup, commands, read, verdict}
-use Rattle.packing.specs.Run.{runFrom, packing, outcomes, result, rowAtExit}
+use Rattle.packing.specs.Withdrawing.{without, withdrawal}
+use Rattle.packing.specs.Run.{runFrom, packingFrom, packing, outcomes, result, rowAtExit}
 use Rattle.packing.specs.Counting.{stockPlaces, walk}
 use Rattle.packing.specs.Plans.{planOf, limits, fault, entries, check}
-use Rattle.packing.specs.Compared.{numberOpened, used}
+use Rattle.packing.specs.Compared.{numberOpened, shelfPlan, shelvedSizes, used}
 
 -- What a case is about.
 pub data Finding : Type 0 where
@@ -34,6 +35,10 @@ shelved c stock sizes = words (map word (outcomes (opening c stock) (map Shelve 
 abbrev pub left : (capacity stock : ℕ) → List ℕ → Finding
 left c stock sizes = words (map freeUnits (outcomes (opening c stock) (map Shelve sizes)))
 
+-- The words of both rows, one after the other, of these commands at capacity 60.
+abbrev pub answered : (stock : ℕ) → List Command → Finding
+answered stock cs = words (map word (outcomes (opening 60 stock) cs) ++ map freeUnits (outcomes (opening 60 stock) cs))
+
 -- What a count hands back after these sizes at capacity 60: the figure, and the places read.
 abbrev pub counted : (stock : ℕ) → List ℕ → Finding
 counted stock sizes = let t = walk (stockPlaces stock (packing (opening 60 stock) (map Shelve sizes) .bins)) in words (t .figure ∷ t .read ∷ [])
@@ -49,6 +54,10 @@ theorem1 =
 
 abbrev pub seven : List ℕ
 seven = 1 ∷ 2 ∷ 3 ∷ 3 ∷ 4 ∷ 5 ∷ 5 ∷ 6 ∷ 7 ∷ 2 ∷ 4 ∷ 6 ∷ 1 ∷ 2 ∷ 3 ∷ 4 ∷ 5 ∷ 6 ∷ 7 ∷ 1 ∷ 7 ∷ []
+
+-- Seven items fill seven bins, and all but the last are taken out.
+abbrev pub recalled : List Command
+recalled = map Shelve (replicate 7 60) ++ map Withdraw (1 ∷ 2 ∷ 3 ∷ 4 ∷ 5 ∷ 6 ∷ [])
 
 -- The stream that document 01 gives to `shelve`, in bytes.
 abbrev pub sample : List ℕ
@@ -85,6 +94,19 @@ table =
     counted 4 (31 ∷ 31 ∷ 22 ∷ []) is words (3 ∷ 4 ∷ []) ∷
     counted 4 (replicate 5 60) is words (4 ∷ 4 ∷ []) ∷
     counted 1 (60 ∷ []) is words (1 ∷ 1 ∷ []) ∷
+    -- Withdrawals: 17 for 0, itself, a later one, a count, a refused item, one already out and a withdrawal; the bin is there for the next A.
+    answered 4 (Shelve 31 ∷ Shelve 0 ∷ Count ∷ map Withdraw (0 ∷ 5 ∷ 7 ∷ 3 ∷ 2 ∷ 1 ∷ 1 ∷ 9 ∷ []) ++ Shelve 40 ∷ [])
+    is words (1 ∷ 32_776 ∷ 1 ∷ replicate 5 32_785 ++ 1 ∷ 32_785 ∷ 32_785 ∷ 1 ∷ 29 ∷ 0 ∷ 0 ∷ replicate 5 0 ++ 60 ∷ 0 ∷ 0 ∷ 20 ∷ []) ∷
+    -- An m-th B2 passes over an emptied bin of class 1, and the next over one that holds only a B2; the B2 count does not go back.
+    answered 8 (Shelve 31 ∷ map Shelve (replicate 5 22) ++ Withdraw 1 ∷ Withdraw 2 ∷ Shelve 22 ∷ map Shelve (replicate 6 22))
+    is words (1 ∷ 2 ∷ 2 ∷ 3 ∷ 3 ∷ 4 ∷ 1 ∷ 2 ∷ 5 ∷ 2 ∷ 4 ∷ 6 ∷ 6 ∷ 7 ∷ 8 ∷ 29 ∷ 38 ∷ 16 ∷ 38 ∷ 16 ∷ 38 ∷ 60 ∷ 38 ∷ 38 ∷ 16 ∷ 16 ∷ 38 ∷ 16 ∷ 38 ∷ 38 ∷ []) ∷
+    -- A stock that is spent stays so when its bin is emptied, which takes only items of its class.
+    answered 1 (Shelve 60 ∷ Shelve 60 ∷ Withdraw 1 ∷ Shelve 20 ∷ Shelve 60 ∷ Count ∷ []) is words (1 ∷ 32_778 ∷ 1 ∷ 32_778 ∷ 1 ∷ 1 ∷ 0 ∷ 0 ∷ 60 ∷ 0 ∷ 0 ∷ 0 ∷ []) ∷
+    -- Why the figure of demand 3 is for streams without withdrawals: the shelf's own plan uses one bin of seven, and passes.
+    checked (check 60 7 (shelfPlan (opening 60 512) recalled) (shelvedSizes (opening 60 512) recalled)) is checked PlanResult.Passed ∷
+    figure (3 * numberOpened (opening 60 512) recalled) is figure 21 ∷
+    figure (5 * used (shelfPlan (opening 60 512) recalled) + 15) is figure 20 ∷
+    holds (3 * numberOpened (opening 60 512) recalled ≤? 5 * used (shelfPlan (opening 60 512) recalled) + 15) is holds false ∷
     -- The sample stream, with two words more in each row than it has commands.
     returned (result (verdict sample 12)) is returned (StreamResult.Accepted 8 4) ∷
     words (rowAtExit word (verdict sample 12) (replicate 12 7)) is words (1 ∷ 2 ∷ 2 ∷ 3 ∷ 3 ∷ 4 ∷ 1 ∷ 32_778 ∷ 4 ∷ 4 ∷ 7 ∷ 7 ∷ []) ∷
@@ -92,5 +114,5 @@ table =
     []
 
 pub worked-shelves : map (λ c. c .0) table ≡ map (λ c. c .1) table
-unfolding table sizeClass total greatest any firstFit put decision placed runFrom stockPlaces walk zipWith flatten used limits fault entries check widths lookup commands read
+unfolding table sizeClass total greatest any keep firstFit put decision placed without withdrawal runFrom packingFrom stockPlaces walk zipWith flatten used limits fault entries check widths lookup commands read
 worked-shelves = refl

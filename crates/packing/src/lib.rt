@@ -25,10 +25,12 @@ pub struct Opening {
     pub m: u8,
 }
 
-// A command after the opening: 02, shelve an item of this size; 03, how many bins are opened.
+// A command after the opening: 02, shelve an item of this size; 03, how many bins are opened; 04, take out the item that the command of this number
+// shelved. (Of one width, so that a command is a kind and a number, and the compiler keeps the two apart.)
 pub enum Command {
     Shelve(u32),
     Count,
+    Withdraw(u32),
 }
 
 // A row of the table that gives each command byte its operand width.
@@ -43,21 +45,24 @@ pub enum Width {
     Unknown,
 }
 
-// Why an item is refused: 8, 9, 10.
+// Why an item is refused: 8, 9, 10; and why none is taken out: 17.
 pub enum ItemReason {
     SizeZero,
     AboveCapacity,
     StockSpent,
+    NotShelved,
 }
 
-// What a command comes to: the bin of its item and the units that the item leaves free there, the number of bins opened, or a refusal.
+// What a command comes to: the bin of its item and the units that the item leaves free there, the number of bins opened, the bin that the item named
+// has left and the units that are then free there, or a refusal.
 pub enum Outcome {
     Placed { bin: u16, free: u32 },
     Counted(u16),
+    Withdrawn { bin: u16, free: u32 },
     Refused(ItemReason),
 }
 
-// "An answer joins the command's number with placed, counted or refused."
+// "An answer joins the command's number with placed, counted or refused", or withdrawn.
 pub struct Answer {
     pub number: usize,
     pub outcome: Outcome,
@@ -80,7 +85,7 @@ pub enum StreamReason {
     TooFewWords,
 }
 
-// What the stream call returns: items accepted and bins opened, or a refusal.
+// What the stream call returns: items still shelved and bins opened, or a refusal.
 pub enum StreamResult {
     Accepted { items: usize, opened: usize },
     Refused { reason: StreamReason, offset: usize },

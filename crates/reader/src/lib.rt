@@ -9,6 +9,7 @@ ghost use lib.ListN.{length, drop};
 ghost use Rattle.packing.specs.Limits.{mostCommands};
 ghost use Rattle.packing.specs.Streams.{openingLength, behindOpening, openingOf, commands, read};
 ghost use Rattle.reader.specs.Reading.{Opened, summary};
+ghost use Rattle.reader.specs.Items.{itemLength, ItemsAhead};
 
 // What the first pass finds: the opening and the number of commands after it; or the first fault and its offset.
 pub enum Summary {
@@ -42,27 +43,63 @@ pub fn behind_opening(stream: &[u8]) -> &[u8]
     &stream[begin..]
 }
 
+// The bytes of an item, its opcode with it.
+fn item_length() -> usize
+    ensures { λ r. ⌜ r ≡ itemLength ⌝ }
+{
+    let width = fronts::table_width(2);
+    width + 1
+}
+
+// How many whole items stand at the front of a stream, one behind the other, counted up to so many. Most commands are items, and these are passed
+// without a question for the other opcodes.
+fn items_ahead(rest: &[u8], most: usize) -> usize
+    ensures { λ r. ⌜ ItemsAhead (now (rest .entry)) most r ⌝ }
+{
+    let used = item_length();
+    let mut behind = rest;
+    let mut count: usize = 0;
+    while count < most {
+        if behind.len() < used {
+            return count;
+        }
+        if behind[0] != 2 {
+            return count;
+        }
+        behind = &behind[used..];
+        count += 1;
+    }
+    count
+}
+
 // Reads the commands after the opening, of which there may be 4,096; refusal 6 comes first.
 fn scan(stream: &[u8], o: Opening) -> Summary
     requires { ⌜ Opened (now stream) ⌝ }
     ensures { λ r. ⌜ r ≡ summary (commands o mostCommands openingLength (behindOpening (now (stream .entry)))) ⌝ }
 {
     let mut rest = behind_opening(stream);
-    let mut offset: usize = stream.len() - rest.len();
     let mut count: usize = 0;
     while 0 < rest.len() {
         if count == MOST_COMMANDS {
+            let offset = stream.len() - rest.len();
             return Summary::Refused(StreamReason::TooManyCommands, offset);
         }
-        match fronts::read_front(rest) {
-            Front::Faulty(reason) => {
-                return Summary::Refused(reason, offset);
-            }
-            Front::Whole(_, width) => {
-                let used = width + 1;
-                rest = &rest[used..];
-                offset += used;
-                count += 1;
+        let items = items_ahead(rest, MOST_COMMANDS - count);
+        if 0 < items {
+            let used = items * item_length();
+            rest = &rest[used..];
+            count += items;
+        } else {
+            match fronts::read_front(rest) {
+                Front::Faulty(reason) => {
+                    let offset = stream.len() - rest.len();
+                    return Summary::Refused(reason, offset);
+                }
+                Front::Whole(_, width) => {
+                    let used = width + 1;
+                    rest = &rest[used..];
+                    count += 1;
+                }
             }
         }
     }

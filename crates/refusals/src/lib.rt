@@ -1,13 +1,16 @@
-// "What a refusal gives": document 01's number of each refusal, the words of an answer in both rows, and the answer that they stand for.
+// "What a refusal gives": the documents' number of each refusal, the words of an answer in both rows, and the answer that they stand for.
 use packing::Command;
 use packing::ItemReason;
 use packing::Outcome;
 use packing::PlanReason;
 use packing::StreamReason;
 ghost use mathlib.Core.Path.{_≡_};
+ghost use Prim.Native.Nat.{_-_};
+ghost use Rattle.packing.specs.declared.Outcome.the-variants.{Refused};
+ghost use Rattle.packing.specs.Prelude.{_<?_, if_then_else_};
 ghost use Rattle.packing.specs.Refusals.{itemNumber, streamNumber, planNumber, word, freeUnits, itemReason, outcomeOf};
 
-// Document 01's number of an item's refusal.
+// The number of an answer's refusal: 8, 9 and 10 are document 01's, 17 is document 02's.
 pub fn item_number(reason: ItemReason) -> u16
     ensures { λ r. ⌜ r ≡ itemNumber reason ⌝ }
 {
@@ -15,6 +18,7 @@ pub fn item_number(reason: ItemReason) -> u16
         ItemReason::SizeZero => 8,
         ItemReason::AboveCapacity => 9,
         ItemReason::StockSpent => 10,
+        ItemReason::NotShelved => 17,
     }
 }
 
@@ -54,6 +58,7 @@ pub fn word_of(outcome: Outcome) -> u16
     match outcome {
         Outcome::Placed { bin, free: _ } => bin,
         Outcome::Counted(opened) => opened,
+        Outcome::Withdrawn { bin, free: _ } => bin,
         Outcome::Refused(reason) => {
             let number = item_number(reason);
             32768 + number
@@ -68,33 +73,42 @@ pub fn free_units_of(outcome: Outcome) -> u32
     match outcome {
         Outcome::Placed { bin: _, free } => free,
         Outcome::Counted(_) => 0,
+        Outcome::Withdrawn { bin: _, free } => free,
         Outcome::Refused(_) => 0,
     }
 }
 
-// The refusal of an item that has this number.
+// The refusal of a command that has this number.
 fn item_reason(number: u16) -> ItemReason
     ensures { λ r. ⌜ r ≡ itemReason number ⌝ }
 {
     match number {
         8 => ItemReason::SizeZero,
         9 => ItemReason::AboveCapacity,
-        _ => ItemReason::StockSpent,
+        10 => ItemReason::StockSpent,
+        _ => ItemReason::NotShelved,
     }
 }
 
-// The outcome that an answer word and the free units beside it stand for: the command tells a bin's number from a count.
+// What an answer word stands for whose command names a bin: this outcome, unless the word is a refusal's.
+fn unless_refused(word: u16, named: Outcome) -> Outcome
+    ensures { λ r. ⌜ r ≡ (if word <? 32_768 then named else Refused (itemReason (word - 32_768))) ⌝ }
+{
+    if word < 32768 {
+        return named;
+    }
+    let reason = item_reason(word - 32768);
+    Outcome::Refused(reason)
+}
+
+// The outcome that an answer word and the free units beside it stand for: the command tells a bin's number from a count, and whether an item went there
+// or left.
 pub fn outcome_of(command: Command, word: u16, free: u32) -> Outcome
     ensures { λ r. ⌜ r ≡ outcomeOf command word free ⌝ }
 {
     match command {
+        Command::Shelve(_) => unless_refused(word, Outcome::Placed { bin: word, free }),
         Command::Count => Outcome::Counted(word),
-        Command::Shelve(_) => {
-            if word < 32768 {
-                return Outcome::Placed { bin: word, free };
-            }
-            let reason = item_reason(word - 32768);
-            Outcome::Refused(reason)
-        }
+        Command::Withdraw(_) => unless_refused(word, Outcome::Withdrawn { bin: word, free }),
     }
 }

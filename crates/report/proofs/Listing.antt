@@ -93,14 +93,14 @@ module _ {stream words free out₀ out rest : List ℕ} {done at : ℕ} (g : Lis
       stock = in-limits o (ok .opening-good) .stock .1
 
       -- The words at the command's place tell its answer.
-      told : a ≡ answerTo o packed c
+      told : a ≡ answerTo o packed (suc (length (g .past))) c
       told =
           let coming = walk-coming (walk-next (g .walk) more c w f) all (ok .commands-whole) in
           let all-are : all ≡ g .past ++ c ∷ coming .later = coming .all-are ∙ append-assoc (g .past) (c ∷ []) (coming .later) in
           let here = word-ahead o (g .past) c word (coming .later) words (g .from .others) done (rw (← all-are) (g .from .answers)) (g .done-are) in
           let beside = word-ahead o (g .past) c freeUnits (coming .later) free (g .from .other-frees) done (rw (← all-are) (g .from .frees)) (g .done-are) in
-          e ∙ ap (λ (n : ℕ). outcomeOf c n (getD free done 0)) here ∙ ap (outcomeOf c (word (answerTo o packed c))) beside
-          ∙ word-gives-back o packed (reached o (g .past)) stock c (answerTo o packed c) (told-to o packed (reached o (g .past)) c)
+          e ∙ ap (λ (n : ℕ). outcomeOf c n (getD free done 0)) here ∙ ap (outcomeOf c (word (answerTo o packed (suc (length (g .past))) c))) beside
+          ∙ word-gives-back o packed (suc (length (g .past))) (reached o (g .past)) stock c (answerTo o packed (suc (length (g .past))) c) (told-to o packed (suc (length (g .past))) (reached o (g .past)) c)
 
       -- Its line, and with it the lines so far.
       abbrev printing : Answer
@@ -109,14 +109,14 @@ module _ {stream words free out₀ out rest : List ℕ} {done at : ℕ} (g : Lis
       line-few : length (answerLine printing) ≤ mostOfALine
       line-few =
           rw told
-          (answer-line-few o packed (reached o (g .past)) stock (in-limits o (ok .opening-good) .capacity .1) (done + 1) (omega (arith, listing-index)) c (answerTo o packed c) (told-to o packed (reached o (g .past)) c))
+          (answer-line-few o packed (suc (length (g .past))) (reached o (g .past)) stock (in-limits o (ok .opening-good) .capacity .1) (done + 1) (omega (arith, listing-index)) c (answerTo o packed (suc (length (g .past))) c) (told-to o packed (suc (length (g .past))) (reached o (g .past)) c))
 
       lines-more : lines (answers o (g .past ++ c ∷ [])) ≡ lines (answers o (g .past)) ++ answerLine printing
       unfolding flatten
       lines-more =
           let number : suc (length (g .past)) ≡ done + 1 = omega (arith, g .done-are) in
           rw (mapped-more o (g .past) c answerOf, map-append, flatten-append, append-nil)
-          (ap (λ (l : List ℕ). lines (answers o (g .past)) ++ l) (ap (λ (k : ℕ). lineOf k (answerTo o packed c)) number ∙ ap (lineOf (done + 1)) (sym told)))
+          (ap (λ (l : List ℕ). lines (answers o (g .past)) ++ l) (ap (λ (k : ℕ). lineOf k (answerTo o packed (suc (length (g .past))) c)) number ∙ ap (lineOf (done + 1)) (sym told)))
 
       pub listing-room : Room out at (answerLine printing)
       listing-room = omega (arith, line-few, g .few, g .from .room, listing-same, listing-index)

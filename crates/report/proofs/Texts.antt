@@ -12,11 +12,11 @@ use Rattle.packing.specs.Refusals.{word, freeUnits, streamNumber}
 use Rattle.packing.specs.Bins.{opened}
 use Rattle.packing.specs.Streams.{Read, accepted, refused, verdict}
 use Rattle.packing.specs.Limits.{mostCommands}
-use Rattle.packing.specs.Run.{packing, answers, placements, result, rowAtExit}
+use Rattle.packing.specs.Run.{packing, answers, stillShelved, result, rowAtExit}
 use Rattle.packing.proofs.Tests.{clash}
 use Rattle.packing.proofs.Limits.{in-limits}
 use Rattle.packing.proofs.Reached.{reached}
-use Rattle.packing.proofs.Running.{placements-few}
+use Rattle.packing.proofs.Running.{shelved-few}
 use Rattle.packing.proofs.Given.{stream-number-few}
 use Rattle.packing.proofs.Accepted.{accepted-whole}
 use Rattle.text.specs.Lines.{digits, decimal, line}
@@ -82,7 +82,7 @@ module _ (stream : List ℕ) (items bins : ℕ) (e : StreamResult.Accepted items
     returned : StreamResult.Accepted items bins ≡ result (accepted o cs)
     returned = e ∙ ap result accepts
 
-    items-are : items ≡ length (placements o cs)
+    items-are : items ≡ length (stillShelved o cs)
     items-are = let r = returned in cc
 
     bins-are : bins ≡ opened (packing o cs)
@@ -95,7 +95,7 @@ module _ (stream : List ℕ) (items bins : ℕ) (e : StreamResult.Accepted items
         let stock = in-limits o (ok .opening-good) .stock .1 in
         omega (
           arith,
-          line-few (code "T") 3 2 items bins (omega (arith, items-are, placements-few o cs, ok .commands-few)) (omega (arith, bins-are, reached o cs .stock-lasts, stock)),
+          line-few (code "T") 3 2 items bins (omega (arith, items-are, shelved-few o cs, ok .commands-few)) (omega (arith, bins-are, reached o cs .stock-lasts, stock)),
         )
 
     pub printed-accepted : length stream ≤ mostBytes → printed stream ≡ lines (answers o cs) ++ line (code "T") (items ∷ bins ∷ [])

@@ -4,20 +4,21 @@ use Prim.Native.Nat.{ℕ, _*_}
 use Prim.Native.Char.{code}
 use lib.ListN.{length}
 use Rattle.packing.specs.declared.{Opening.Opening, Command.Command, Outcome.Outcome, Answer.Answer, StreamReason.StreamReason}
-use Rattle.packing.specs.declared.Outcome.the-variants.{Placed, Counted, Refused}
+use Rattle.packing.specs.declared.Outcome.the-variants.{Placed, Counted, Withdrawn, Refused}
 use Rattle.packing.specs.Prelude.{_<?_, if_then_else_}
 use Rattle.packing.specs.Limits.{mostCommands}
 use Rattle.packing.specs.Refusals.{itemNumber, streamNumber}
 use Rattle.packing.specs.Bins.{opened}
 use Rattle.packing.specs.Streams.{Read, accepted, refused, verdict}
-use Rattle.packing.specs.Run.{answers, packing, placements}
+use Rattle.packing.specs.Run.{answers, packing, stillShelved}
 use Rattle.text.specs.Lines.{line}
 
--- "`P` command cartridge; `C` command count; `R` command refusal", and "`P` lines gain the figure at their end": by what the command of this number
--- comes to.
+-- "`P` command cartridge; `C` command count; `R` command refusal", "`P` lines gain the figure at their end", and "`shelve` prints `O` command cartridge",
+-- without the free units: by what the command of this number comes to.
 abbrev pub lineOf : (number : ℕ) → Outcome → List ℕ
 lineOf number (Placed bin free) = line (code "P") (number ∷ bin ∷ free ∷ [])
 lineOf number (Counted opened) = line (code "C") (number ∷ opened ∷ [])
+lineOf number (Withdrawn bin free) = line (code "O") (number ∷ bin ∷ [])
 lineOf number (Refused reason) = line (code "R") (number ∷ itemNumber reason ∷ [])
 
 abbrev pub answerLine : Answer → List ℕ
@@ -27,9 +28,9 @@ answerLine a = lineOf (a .number) (a .outcome)
 abbrev pub lines : List Answer → List ℕ
 lines rows = flatten (map answerLine rows)
 
--- "At the end `T` masters-accepted cartridges-opened."
+-- "At the end `T` masters-accepted cartridges-opened": the masters "are of masters still shelved".
 abbrev pub answersText : Opening → List Command → List ℕ
-answersText o cs = lines (answers o cs) ++ line (code "T") (length (placements o cs) ∷ opened (packing o cs) ∷ [])
+answersText o cs = lines (answers o cs) ++ line (code "T") (length (stillShelved o cs) ∷ opened (packing o cs) ∷ [])
 
 -- "A refused stream prints only `X` number offset."
 abbrev pub refusal : StreamReason → (offset : ℕ) → List ℕ

@@ -6,10 +6,11 @@ use Prim.Native.Char.{code}
 use Prim.Native.String.{String}
 use Prim.Native.String.{[] as end-of-text, _∷_ as _before_}
 use Rattle.packing.specs.Placing.{firstFit, put, decision, placed}
-use Rattle.packing.specs.Prelude.{total, any}
+use Rattle.packing.specs.Prelude.{total, any, keep}
+use Rattle.packing.specs.Withdrawing.{without, withdrawal}
 use Rattle.packing.specs.SizeClasses.{sizeClass}
 use Rattle.packing.specs.Streams.{widths, lookup, commands, read}
-use Rattle.packing.specs.Run.{runFrom}
+use Rattle.packing.specs.Run.{runFrom, packingFrom}
 use Rattle.packing.specs.Worked.{sample}
 use Rattle.text.specs.Lines.{digits, decimal, line}
 use Rattle.report.specs.Lines.{text, printing, printed}
@@ -28,5 +29,5 @@ table =
     []
 
 pub worked-texts : map (λ c. printed (c .0)) table ≡ map (λ c. bytes (c .1)) table
-unfolding table bytes printed printing text line decimal digits sizeClass total any firstFit put decision placed runFrom flatten widths lookup commands read
+unfolding table bytes printed printing text line decimal digits sizeClass total any keep firstFit put decision placed without withdrawal runFrom packingFrom flatten widths lookup commands read
 worked-texts = refl

@@ -25,6 +25,11 @@ fn put_answer(out: &mut [u8], at: usize, answer: Answer) -> usize
             let figures = [number, opened];
             text::put_line(out, at, b'C', &figures)
         }
+        Outcome::Withdrawn { bin, free: _ } => {
+            let bin = bin as usize;
+            let figures = [number, bin];
+            text::put_line(out, at, b'O', &figures)
+        }
         Outcome::Refused(reason) => {
             let refusal = refusals::item_number(reason) as usize;
             let figures = [number, refusal];

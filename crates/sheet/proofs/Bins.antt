@@ -9,45 +9,31 @@ use Rattle.packing.specs.declared.{Opening.Opening, Command.Command}
 use Rattle.packing.specs.Prelude.{total}
 use Rattle.packing.specs.Bins.{Bin, load}
 use Rattle.packing.specs.Limits.{openingGood, mostCommands}
-use Rattle.packing.specs.Run.{packing, placements}
+use Rattle.packing.specs.Run.{packing}
 use Rattle.packing.proofs.Tests.{each-cons}
 use Rattle.packing.proofs.Limits.{in-limits}
-use Rattle.packing.proofs.Moves.{trace}
-use Rattle.packing.proofs.Putting.{weightOf}
 use Rattle.packing.proofs.Reached.{reached}
-use Rattle.packing.proofs.Numbers.{trace-weight}
-use Rattle.packing.proofs.Running.{placements-few}
+use Rattle.packing.proofs.Running.{shelved-few}
+use Rattle.packing.proofs.Shelved.{held-shelved}
 use Rattle.ledger.specs.Records.{rowOf as ledgerRow}
 use Rattle.sheet.specs.Sheet.{Row, rowOf, rowsFrom}
 use Rattle.sheet.specs.Writing.{told, toldFrom, Legible}
 
--- A bin holds at most the items accepted.
-ones : {T : Type 0} (ts : List T) → total (map (λ t. 1) ts) ≡ length ts
-unfolding total
-ones [] = refl
-ones (t ∷ ts) = omega (arith, ones ts)
-
-held-few : (bins : List Bin) (b : Bin) → List·Memᴰ b bins → length (b .items) ≤ weightOf (λ s. 1) bins
+-- A bin holds at most the items still shelved.
+held-few : (bins : List Bin) (b : Bin) → List·Memᴰ b bins → length (b .items) ≤ total (map (λ b. length (b .items)) bins)
 unfolding total
 held-few [] = λ b m. absurd (List·Memᴰ·not-nil m)
-held-few (b ∷ bs) = each-cons (λ x. length (x .items) ≤ weightOf (λ s. 1) (b ∷ bs)) (omega (arith, ones (b .items))) (λ x m. omega (arith, held-few bs x m))
+held-few (b ∷ bs) = each-cons (λ x. length (x .items) ≤ total (map (λ b. length (b .items)) (b ∷ bs))) (omega arith) (λ x m. omega (arith, held-few bs x m))
 
 module _ (o : Opening) (cs : List Command) (good : openingGood o ≡ true) (few : length cs ≤ mostCommands) where
   pub bin-legible : (number : ℕ) → number ≤ 512 → (b : Bin) → List·Memᴰ b (packing o cs .bins) → Legible (o .capacity) number (ledgerRow o b)
-  unfolding total
   bin-legible number n b m =
       record {
         number-few = omega arith;
         class-few = omega (arith, reached o cs .bins-sound b m .to-class-4);
         capacity-few = omega (arith, in-limits o good .capacity .1);
         free-few = omega arith;
-        held-few = omega (
-          arith,
-          held-few (packing o cs .bins) b m,
-          trace-weight o (λ s. 1) (trace o cs),
-          ones (placements o cs),
-          placements-few o cs,
-        );
+        held-few = omega (arith, held-few (packing o cs .bins) b m, held-shelved o cs, shelved-few o cs);
       }
 
 -- A ledger's row tells the row of the sheet, where the bin is not overfull.

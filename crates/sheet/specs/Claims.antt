@@ -8,7 +8,7 @@ use Rattle.packing.specs.declared.{Opening.Opening, Command.Command}
 use Rattle.packing.specs.Prelude.{total, _=?_, if_then_else_}
 use Rattle.packing.specs.Bins.{opened}
 use Rattle.packing.specs.Run.{packing}
-use Rattle.packing.specs.Compared.{acceptedSizes}
+use Rattle.packing.specs.Compared.{shelvedSizes}
 use Rattle.sheet.specs.Sheet.{Row, Line, page, bin, rows, lines, characters}
 
 -- so many numbers, rising from the first
@@ -29,9 +29,9 @@ module _ (o : Opening) (cs : List Command) where
   abbrev pub OneRowEach : Type 0
   OneRowEach = map (λ r. r .number) (rows o (packing o cs)) ≡ countUp 1 (opened (packing o cs))
 
-  -- "Loads on the sheet must add up to the accepted sizes."
+  -- "Loads on the sheet must add up to the accepted sizes": those still shelved.
   abbrev pub SheetLoadsAddUp : Type 0
-  SheetLoadsAddUp = total (map (λ r. r .load) (rows o (packing o cs))) ≡ total (acceptedSizes o cs)
+  SheetLoadsAddUp = total (map (λ r. r .load) (rows o (packing o cs))) ≡ total (shelvedSizes o cs)
 
   -- What is free and what is loaded make up the capacity.
   abbrev pub FreeAndLoad : Type 0

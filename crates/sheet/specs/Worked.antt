@@ -5,6 +5,7 @@ use Prim.Native.Nat.{ℕ, suc}
 use Prim.Native.String.{String}
 use lib.ListN.{replicate}
 use Rattle.packing.specs.Placing.{firstFit, put, decision, placed}
+use Rattle.packing.specs.Run.{packingFrom}
 use Rattle.packing.specs.Prelude.{total, any}
 use Rattle.packing.specs.SizeClasses.{sizeClass}
 use Rattle.packing.specs.Streams.{widths, lookup, commands, read}
@@ -22,7 +23,7 @@ table =
     []
 
 pub worked-sheets : map (λ c. sheet (c .0)) table ≡ map (λ c. bytes (c .1)) table
-unfolding table bytes sheet printing text line decimal digits sizeClass total any firstFit put decision placed flatten widths lookup commands read rowsFrom paged characters
+unfolding table bytes sheet printing text line decimal digits sizeClass total any firstFit put decision placed packingFrom flatten widths lookup commands read rowsFrom paged characters
 worked-sheets = refl
 
 -- The pages on a sheet.

@@ -3,6 +3,8 @@ pub mod run;
 
 use ledger::BINS;
 use ledger::COLUMNS;
+use ledger::NOTE_WORDS;
+use ledger::NUMBERS;
 use packing::StreamReason;
 use packing::StreamResult;
 use reader::Summary;
@@ -42,7 +44,17 @@ pub fn record(
             }
             let shape = tournament::shape_of(opening.stock);
             let mut trees = [0u32; ROW_WORDS];
-            let totals = run::answer_all(stream, opening, shape, &mut trees, ledger, answers, free);
+            let mut notes = [[0u32; NOTE_WORDS]; NUMBERS];
+            let totals = run::answer_all(
+                stream,
+                opening,
+                shape,
+                &mut trees,
+                ledger,
+                &mut notes,
+                answers,
+                free,
+            );
             let items = totals.items as usize;
             let opened = totals.opened as usize;
             StreamResult::Accepted { items, opened }

@@ -69,13 +69,14 @@ fn fill(s: &mut [u8; SPACE], from: usize, n: usize, row: &[u8]) -> usize
 fn refusals() {
     show(b"empty\n", b"");
     show(b"1, first byte 03\n", b"\x03");
-    show(b"2, byte 04\n", b"\x01\0\0\0\x3c\0\x04\x06\x04");
+    show(b"2, byte 08\n", b"\x01\0\0\0\x3c\0\x04\x06\x08");
     show(
         b"2, byte 00 after an item\n",
         b"\x01\0\0\0\x3c\0\x04\x06\x02\0\0\0\x16\0",
     );
     show(b"3, opening cut\n", b"\x01\0\0\0\x3c\0\x04");
     show(b"3, item cut\n", b"\x01\0\0\0\x3c\0\x04\x06\x02\0\0\0");
+    show(b"3, withdrawal cut\n", b"\x01\0\0\0\x3c\0\x04\x06\x04\0");
     show(
         b"4, second opening\n",
         b"\x01\0\0\0\x3c\0\x04\x06\x03\x01\0\0\0\x3c\0\x04\x06",
@@ -87,10 +88,10 @@ fn refusals() {
 fn orders() {
     show(b"4 before 3\n", b"\x01\0\0\0\x3c\0\x04\x06\x01\0");
     show(b"3 before 5\n", b"\x01\0\0\0\0\0\0");
-    show(b"5 before 2\n", b"\x01\0\0\0\0\0\x04\x06\x04");
+    show(b"5 before 2\n", b"\x01\0\0\0\0\0\x04\x06\x08");
     show(
         b"2 before 4, the earlier command\n",
-        b"\x01\0\0\0\x3c\0\x04\x06\x04\x01",
+        b"\x01\0\0\0\x3c\0\x04\x06\x08\x01",
     );
 }
 
@@ -124,6 +125,28 @@ fn answers() {
     );
 }
 
+// Withdrawals that are refused: of 0, of the command itself and of a later one, of a count, of a refused item, of one already out, of a withdrawal, and
+// of numbers up to the last and past it. An m-th B2 passes over an emptied bin of class 1 and one that holds only a B2, and an A goes into either. A
+// stock that is spent stays so when its bin is emptied, which takes only items of its class.
+fn withdrawals() {
+    show(
+        b"17\n",
+        b"\x01\0\0\0\x3c\0\x04\x06\x02\0\0\0\x1f\x02\0\0\0\0\x03\x04\0\0\x04\0\x05\x04\0\x07\x04\0\x03\x04\0\x02\x04\0\x01\x04\0\x01\x04\0\x09\x04\xff\xff\x04\x10\0\x04\x10\x01",
+    );
+    show(
+        b"m-th B2 beside no A\n",
+        b"\x01\0\0\0\x3c\0\x08\x06\x02\0\0\0\x1f\x02\0\0\0\x16\x02\0\0\0\x16\x02\0\0\0\x16\x02\0\0\0\x16\x02\0\0\0\x16\x04\0\x01\x02\0\0\0\x16\x02\0\0\0\x1f\x02\0\0\0\x26\x04\0\x09\x04\0\x0a\x02\0\0\0\x16\x02\0\0\0\x16\x02\0\0\0\x16\x02\0\0\0\x16\x02\0\0\0\x16\x02\0\0\0\x16\x04\0\x08\x03",
+    );
+    show(
+        b"emptied, stock spent\n",
+        b"\x01\0\0\0\x3c\0\x01\x06\x02\0\0\0\x3c\x02\0\0\0\x3c\x04\0\x01\x02\0\0\0\x14\x02\0\0\0\x3c\x03",
+    );
+    show_sheet(
+        b"sheet, emptied bins of every class\n",
+        b"\x01\0\0\0\x3c\0\x04\x06\x02\0\0\0\x1f\x02\0\0\0\x19\x02\0\0\0\x16\x02\0\0\0\x14\x04\0\x01\x04\0\x02\x04\0\x03\x04\0\x04\x02\0\0\0\x15",
+    );
+}
+
 // As many commands as there may be, and one more, which is refused with 6 before any other fault of it.
 fn commands() {
     let mut s = [0u8; SPACE];
@@ -132,13 +155,13 @@ fn commands() {
     show_end(b"4096 counts\n", front(&s, most), 15);
     let full = put(&mut s, most, 3);
     show(b"4097 counts\n", front(&s, full));
-    let unknown = put(&mut s, most, 4);
+    let unknown = put(&mut s, most, 8);
     show(b"6 before 2\n", front(&s, unknown));
     let cut = put(&mut s, most, 2);
     show(b"6 before 3\n", front(&s, cut));
     let second = put(&mut s, most, 1);
     show(b"6 before 4\n", front(&s, second));
-    let faulty = put(&mut s, first, 4);
+    let faulty = put(&mut s, first, 8);
     let later = fill(&mut s, faulty, 4096, b"\x03");
     show(b"2 before 6, the earlier command\n", front(&s, later));
 }
@@ -198,6 +221,7 @@ fn main() {
     orders();
     limits();
     answers();
+    withdrawals();
     commands();
     lengths();
     short_sheets();

@@ -1,4 +1,5 @@
--- What the entries of a run put into a bin is never above the capacity: it is the total of the sizes answered with its number (packing, Holding).
+-- What the shelf's own plan puts into a bin is never above the capacity: it is the total of the sizes still shelved and answered its number (packing,
+-- Holding).
 use Prim.Native.Nat.{ℕ, _+_, _≤_}
 use mathlib.Core.Path.{_≡_, refl}
 use mathlib.Core.Bool.{Bool, true, false}
@@ -7,9 +8,8 @@ use native.Mathlib.Omega.{arith}
 use lib.Dec.{eqb}
 use Rattle.packing.specs.declared.{Opening.Opening, Command.Command, Entry.Entry}
 use Rattle.packing.specs.Prelude.{if_then_else_, total, keep}
-use Rattle.packing.specs.Run.{placements}
 use Rattle.packing.specs.Plans.{onBin}
-use Rattle.packing.specs.Compared.{sizesIn}
+use Rattle.packing.specs.Compared.{shelfPlan, sizesIn}
 use Rattle.packing.proofs.Holding.{shown-few}
 
 on-bin-is : (n : ℕ) (es : List Entry) → onBin n es ≡ total (sizesIn n es)
@@ -23,5 +23,5 @@ on-bin-is n (e ∷ es) = go (eqb (e .bin) n) (on-bin-is n es)
     go true r = omega arith
     go false r = omega arith
 
-pub run-on-bin : (o : Opening) (cs : List Command) (n : ℕ) → onBin n (placements o cs) ≤ o .capacity
-run-on-bin o cs n = omega (arith, on-bin-is n (placements o cs), shown-few o cs n)
+pub shelf-on-bin : (o : Opening) (cs : List Command) (n : ℕ) → onBin n (shelfPlan o cs) ≤ o .capacity
+shelf-on-bin o cs n = omega (arith, on-bin-is n (shelfPlan o cs), shown-few o cs n)

@@ -14,7 +14,7 @@ use Rattle.packing.specs.SizeClasses.{sizeClass}
 use Rattle.packing.specs.Placing.{firstFit, put, decision, placed}
 use Rattle.packing.specs.Run.{runFrom}
 use Rattle.packing.specs.Plans.{planOf, limits, fault, entries, check}
-use Rattle.packing.specs.Compared.{acceptedSizes, numberOpened, used}
+use Rattle.packing.specs.Compared.{acceptedSizes, numberOpened, noneOut, used}
 use Rattle.worst_case.specs.ExactFive.{ExactFive}
 use Rattle.packing.proofs.Limits.{within-limits}
 use Rattle.worst_case.proofs.WorstCase.{worst-case-five}
@@ -36,6 +36,7 @@ plan = planOf sizes (1 ∷ 1 ∷ 2 ∷ 2 ∷ 2 ∷ [])
 record Met (m : ℕ) : Type 0 where
   good : openingGood (opening m) ≡ true
   passes : check 11 2 plan (acceptedSizes (opening m) cs) ≡ PlanResult.Passed
+  none : noneOut (opening m) cs ≡ true
   equal : 3 * numberOpened (opening m) cs ≡ 5 * used plan + 5
 
 -- The one B2 is not an m-th.
@@ -46,13 +47,13 @@ met : (m : ℕ) → mGood m ≡ true → Met m
 unfolding sizeClass total greatest any firstFit put decision placed runFrom zipWith flatten used limits fault entries check
 met m h =
     let no-m-th = no-turn m (within-limits 6 9 m h .0) in
-    record { good = rw h; passes = simp no-m-th; equal = simp no-m-th }
+    record { good = rw h; passes = simp no-m-th; none = simp no-m-th; equal = simp no-m-th }
 
 -- The bound gives the 5, and a D that serves, serves after the five commands.
 pub exact-five : ExactFive
 exact-five m h =
     let e = met m h in
     record {
-      serves = λ o cs same good j k plan ok. omega (arith, worst-case-five o cs good j k plan ok);
-      no-smaller = λ D serves. omega (arith, e .equal, serves (opening m) cs refl (e .good) 5 2 plan (e .passes));
+      serves = λ o cs same good j k plan none ok. omega (arith, worst-case-five o cs good j k plan none ok);
+      no-smaller = λ D serves. omega (arith, e .equal, serves (opening m) cs refl (e .good) 5 2 plan (e .none) (e .passes));
     }

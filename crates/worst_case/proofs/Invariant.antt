@@ -1,14 +1,16 @@
--- What every packing has that Refined First-Fit made, class by class. The empty packing has it, placing an item keeps it, and so every trace reaches it.
+-- What every packing has that Refined First-Fit made, class by class. The empty packing has it, placing an item keeps it, and so every
+-- trace reaches it in which nothing is taken out.
 use Prim.Native.Nat.{ℕ, suc, _+_, _%_, _≤_, _<_}
 use mathlib.Core.Path.{_≡_, refl, subst}
-use mathlib.Core.Bool.{Bool, true, false}
-use mathlib.Core.List.{List, [], List·Memᴰ·not-nil}
+use mathlib.Core.Bool.{Bool, true, false, true≢false}
+use mathlib.Core.List.{List, [], map, List·Memᴰ·not-nil}
 use native.Mathlib.Omega.{arith}
 use borrow.Author.Tests.{eqb-true, eqb-false}
 use lib.Dec.{eqb}
 use Rattle.packing.specs.declared.{Opening.Opening, SizeClass.SizeClass}
 use Rattle.packing.specs.declared.SizeClass.the-variants.{A, B1, B2, X}
-use Rattle.packing.specs.Prelude.{if_then_else_}
+use Rattle.packing.specs.Prelude.{if_then_else_, any}
+use Rattle.packing.specs.Refusals.{isWithdrawn}
 use Rattle.packing.specs.SizeClasses.{countB2}
 use Rattle.packing.specs.Bins.{Item, Bin, Packing, empty, kind}
 use Rattle.packing.specs.Placing.{Target, toClass, besideA, classOf, targetOf, placed}
@@ -16,7 +18,7 @@ use Rattle.packing.specs.Run.{item, Step}
 use Rattle.packing.specs.Claims.{Bounds}
 use Rattle.packing.proofs.SizeClasses.{class-bounds}
 use Rattle.packing.proofs.Putting.{fresh, put-each}
-use Rattle.packing.proofs.Moves.{places, stays, Trace, ends, moves}
+use Rattle.packing.proofs.Moves.{places, withdraws, counts, refuses, Trace, ends, moves}
 use Rattle.worst_case.proofs.Lists.{weighs}
 use Rattle.worst_case.proofs.ByBounds.{b2}
 use Rattle.worst_case.proofs.OneKind.{OneKind, one-kind-kept}
@@ -118,10 +120,15 @@ module _ (o : Opening) (some : 1 ≤ o .m) where
   unfolding placed
   placed-kept p i r = kept o i (p .bins) (p .b2s) r some (kind o i) refl (class-bounds (o .capacity) (i .size))
 
-  trace-kept : {p q : Packing} {ts : List Step} → Trace o p ts q → InvOf p → InvOf q
-  trace-kept ends h = h
-  trace-kept (moves {p = p} (places {s = s} a) r) h = trace-kept r (placed-kept p (item s) h)
-  trace-kept (moves (stays e) r) h = trace-kept r h
+  -- An item that is taken out would leave a bin that first fit did not fill: so no step takes one out.
+  trace-kept : {n : ℕ} {p q : Packing} {ts : List Step} → Trace o n p ts q → any isWithdrawn (map (λ t. t .outcome) ts) ≡ false → InvOf p → InvOf q
+  unfolding any
+  trace-kept ends e h = h
+  trace-kept (moves {n = n} {p = p} (places {s = s} a) r) e h = trace-kept r e (placed-kept p (item n s) h)
+  trace-kept (moves (withdraws x) r) e h = absurd (true≢false e)
+  trace-kept (moves counts r) e h = trace-kept r e h
+  trace-kept (moves (refuses z) r) e h = trace-kept r e h
 
-  pub trace-invariant : {q : Packing} {ts : List Step} → Trace o empty ts q → Inv (o .capacity) (o .m) (q .bins) (q .b2s)
-  trace-invariant r = trace-kept r (inv-empty (o .capacity) (o .m) some)
+  pub trace-invariant : {n : ℕ} {q : Packing} {ts : List Step} → Trace o n empty ts q → any isWithdrawn (map (λ t. t .outcome) ts) ≡ false
+      → Inv (o .capacity) (o .m) (q .bins) (q .b2s)
+  trace-invariant r e = trace-kept r e (inv-empty (o .capacity) (o .m) some)

@@ -1,38 +1,42 @@
--- The packing's own plan passes: it fits, and the checker is exact. Its sizes are in order by definition; that they, the numbers and the loads are within
--- their limits is read off the trace.
+-- The shelf's own plan passes: it fits, and the checker is exact. Its sizes are in order by definition; that they, the numbers and the loads are within
+-- their limits is known of the items still shelved.
 use Prim.Native.Nat.{ℕ, _≤_}
 use mathlib.Core.Path.{_≡_, refl}
 use mathlib.Core.Bool.{true}
 use mathlib.Core.List.{List}
 use native.Mathlib.Omega.{arith}
-use lib.ListN.{length}
+use lib.ListN.{length, length-map}
 use Rattle.packing.specs.declared.{Opening.Opening, Command.Command}
 use Rattle.packing.specs.Limits.{openingGood, mostCommands}
 use Rattle.packing.specs.Streams.{accepted, verdict}
-use Rattle.packing.specs.Run.{placements}
+use Rattle.packing.specs.Run.{entryOf, stillShelved}
+use Rattle.packing.specs.Compared.{numberOpened}
 use Rattle.packing.proofs.Limits.{in-limits}
-use Rattle.packing.proofs.Moves.{trace}
+use Rattle.packing.proofs.Tests.{each-map}
 use Rattle.packing.proofs.Reached.{reached}
-use Rattle.packing.proofs.Numbers.{trace-opened, trace-entries, at-most-greatest}
-use Rattle.packing.proofs.Running.{placements-few}
+use Rattle.packing.proofs.Numbers.{opened-is}
+use Rattle.packing.proofs.Running.{shelved-few}
+use Rattle.packing.proofs.Shelved.{lying}
 use Rattle.packing.proofs.Accepted.{accepted-whole}
 use Rattle.worst_case.specs.OwnPlan.{OwnPlan}
 use Rattle.worst_case.proofs.PlanFits.{fits-passed}
-use Rattle.worst_case.proofs.BinLoads.{run-on-bin}
+use Rattle.worst_case.proofs.BinLoads.{shelf-on-bin}
 
 pub own-plan : (o : Opening) (cs : List Command) → openingGood o ≡ true → length cs ≤ mostCommands → OwnPlan o cs
 own-plan o cs good few =
     let limits = in-limits o good in
-    let good-entries = trace-entries o (trace o cs) in
+    let lies = lying o cs .each in
     fits-passed _ _ _ _
     (record {
       capacity-good = limits .capacity-good;
-      k-good = omega (arith, limits .stock, trace-opened o (trace o cs), reached o cs .stock-lasts);
-      rows-good = omega (arith, placements-few o cs);
-      sizes-good = λ e m. (good-entries e m .some, good-entries e m .within-capacity);
-      bins-good = λ e m. omega (arith, good-entries e m .from-one, at-most-greatest (λ e. e .bin) (placements o cs) e m);
+      k-good = omega (arith, limits .stock, opened-is o cs, reached o cs .stock-lasts);
+      rows-good = omega (arith, shelved-few o cs, length-map (stillShelved o cs) entryOf);
+      sizes-good = each-map entryOf (λ e. (1 ≤ e .size) × (e .size ≤ o .capacity)) (stillShelved o cs) (λ s m. (lies s m .some, lies s m .within-capacity));
+      bins-good =
+          each-map entryOf (λ e. (1 ≤ e .bin) × (e .bin ≤ numberOpened o cs)) (stillShelved o cs)
+          (λ s m. omega (arith, lies s m .from-one, lies s m .to-opened, opened-is o cs));
       items-in-order = refl;
-      none-overfull = run-on-bin o cs;
+      none-overfull = shelf-on-bin o cs;
     })
 
 -- The same of every accepted stream.

@@ -1,37 +1,41 @@
--- The bound of a trace. From the empty packing it reaches one with the invariant. Its items weigh what the items of any plan that passes weigh, so the
--- bound of one packing applies. Every theorem that compares a packing with a plan is a corollary.
+-- The bound of a trace in which nothing is taken out. From the empty packing it reaches one with the invariant. Its items weigh what the items of any plan
+-- that passes weigh, so the bound of one packing applies. Every theorem that compares a packing with a plan is a corollary.
 use Prim.Native.Nat.{ℕ, _+_, _*_, _≤_}
-use mathlib.Core.Path.{_≡_}
-use mathlib.Core.Bool.{true}
-use mathlib.Core.List.{List, map}
+use mathlib.Core.Path.{_≡_, sym, ap, _∙_}
+use mathlib.Core.Bool.{true, false}
+use mathlib.Core.List.{List, [], map, map-map}
 use native.Mathlib.Omega.{arith}
 use Rattle.packing.specs.declared.{Opening.Opening, Entry.Entry, PlanResult.PlanResult}
-use Rattle.packing.specs.Prelude.{total, greatest}
+use Rattle.packing.specs.Prelude.{total, greatest, any}
+use Rattle.packing.specs.Refusals.{isWithdrawn}
 use Rattle.packing.specs.Limits.{openingGood}
 use Rattle.packing.specs.Bins.{Packing, empty}
-use Rattle.packing.specs.Run.{Step, entriesOf}
+use Rattle.packing.specs.Run.{Step, entryOf, shelvedBy, entriesOf}
 use Rattle.packing.specs.Plans.{check}
 use Rattle.packing.specs.Compared.{used}
 use Rattle.packing.proofs.Limits.{in-limits}
-use Rattle.packing.proofs.Putting.{weightOf}
+use Rattle.packing.proofs.Weights.{weightOf}
 use Rattle.packing.proofs.Moves.{Trace}
-use Rattle.packing.proofs.Numbers.{trace-opened, trace-weight}
+use Rattle.packing.proofs.Numbers.{trace-opened}
+use Rattle.packing.proofs.Shelved.{trace-lying, entries-shelved}
 use Rattle.worst_case.proofs.Lists.{weigh, total-weigh}
 use Rattle.worst_case.proofs.Above.{above, above-few}
 use Rattle.worst_case.proofs.Sixths.{twice, heavy, heavy-apart, heavy-most}
 use Rattle.worst_case.proofs.Weighing.{MostInABin, weighing}
+use Rattle.worst_case.proofs.FourClasses.{ofSize}
 use Rattle.worst_case.proofs.Invariant.{trace-invariant}
 use Rattle.worst_case.proofs.Bound.{Weighed, bound}
 
-module _ (o : Opening) {q : Packing} {ts : List Step} (r : Trace o empty ts q) where
+module _ (o : Opening) {q : Packing} {ts : List Step} (r : Trace o 1 empty ts q) (none : any isWithdrawn (map (λ t. t .outcome) ts) ≡ false) where
   -- The sizes of the items that it places.
   abbrev sizes : List ℕ
   sizes = map (λ e. e .size) (entriesOf ts)
 
   -- The packing weighs what they weigh.
-  trace-weighs : (w : ℕ → ℕ) → weightOf w (q .bins) ≡ weigh w sizes
-  unfolding total
-  trace-weighs w = omega (arith, trace-weight o w r, total-weigh (λ e. e .size) w (entriesOf ts))
+  trace-weighs : (w : ℕ → ℕ) → weightOf (ofSize w) (q .bins) ≡ weigh w sizes
+  trace-weighs w =
+      trace-lying o r .weighs (ofSize w) ∙ ap total (sym (map-map (λ e. w (e .size)) entryOf (shelvedBy ts [])))
+      ∙ ap (λ es. total (map (λ e. w (e .size)) es)) (entries-shelved ts [] none) ∙ total-weigh (λ e. e .size) w (entriesOf ts)
 
   module _ (k : ℕ) (plan : List Entry) (ok : check (o .capacity) k plan sizes ≡ PlanResult.Passed) where
     weighed-plan : (w : ℕ → ℕ) (most : ℕ) → MostInABin w (o .capacity) most → weigh w sizes ≤ most * used plan
@@ -52,5 +56,5 @@ module _ (o : Opening) {q : Packing} {ts : List Step} (r : Trace o empty ts q) w
     pub trace-five : openingGood o ≡ true → 3 * greatest (map (λ e. e .bin) (entriesOf ts)) ≤ 5 * used plan + 5
     trace-five good =
         let m = in-limits o good .m in
-        let inv = trace-invariant o (omega arith) r in
+        let inv = trace-invariant o (omega arith) r none in
         omega (arith, trace-opened o r, bound (o .capacity) (o .m) (q .b2s) (used plan) (q .bins) inv (m .0) (m .1) weighed-trace)

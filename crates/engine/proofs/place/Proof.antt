@@ -8,7 +8,7 @@ use borrow.Author.Needs.{needs}
 use Rattle.packing.specs.Limits.{within}
 use Rattle.packing.proofs.Limits.{within-limits, limits-within}
 use Rattle.packing.proofs.Decided.{is-zero, is-above, decides}
-use Rattle.engine.proofs.Ways.{done-refused}
+use Rattle.engine.proofs.Ways.{refused-so, done-refused}
 use Rattle.engine.proofs.place.Statement.{statement}
 use Rattle.engine.proofs.place.Tie as tie
 
@@ -24,7 +24,7 @@ is-within-requires c κs = search needs
 
 place-fitting-requires : tie.Need-place-fitting-requires
 place-fitting-requires c κs =
-    let within = c .before .before in
+    let within = c .before .before .before in
     let tested = within .before in
     (tested .before .pre, within-limits 1 _ _ (sym (tested .is-within .ensures) ∙ within .if1 .taken))
 
@@ -37,7 +37,7 @@ refuse-requires c κs = search needs
 returns-2 : tie.Need-returns-2
 returns-2 c =
     let start = c .before .before .before .before in
-    rw (c .refuse .ensures) (done-refused (start .pre .sound) (λ p r. decides _ p _ _ (is-zero (c .before .if2 .taken))))
+    rw (c .refuse .ensures) (done-refused (start .pre .sound) (λ p r. refused-so _ p _ _ (decides _ p _ _ (is-zero (c .before .if2 .taken)))))
 
 refuse-requires-2 : tie.Need-refuse-requires-2
 refuse-requires-2 c κs = search needs
@@ -49,7 +49,7 @@ returns-3 c =
     let some = c .before .if2 .left in
     rw (c .refuse2 .ensures)
     (done-refused (tested .before .pre .sound)
-    (λ p r. decides _ p _ _ (is-above (omega (arith, some)) (too-large _ _ (sym (tested .is-within .ensures) ∙ outside .if1 .left) some))))
+    (λ p r. refused-so _ p _ _ (decides _ p _ _ (is-above (omega (arith, some)) (too-large _ _ (sym (tested .is-within .ensures) ∙ outside .if1 .left) some)))))
 
 pub place-spec : {M : Type 1} → statement M
 place-spec =

@@ -3,19 +3,18 @@ use mathlib.Core.Path.{_≡_, sym, ap, subst, _∙_}
 use Prim.Native.Nat.{ℕ, _<_}
 use native.Mathlib.Omega.{arith}
 use borrow.Author.Needs.{needs}
-use Rattle.packing.specs.SizeClasses.{numberOf}
-use Rattle.packing.specs.Bins.{kind}
-use Rattle.packing.specs.Run.{item}
+use Rattle.packing.specs.SizeClasses.{sizeClass, numberOf}
 use Rattle.aim.specs.Aims.{treesWith, treeFor}
 use Rattle.aim.proofs.Aiming.{a-few, home-positive}
 use Rattle.ledger.specs.Rows.{classIn}
+use Rattle.ledger.proofs.Few.{few-held}
 use Rattle.engine.specs.declared.{Spot.Spot, Offer.Offer}
 use Rattle.engine.specs.declared.Offer.the-variants.{Here, Spent}
 use Rattle.engine.specs.Store.{store, Sound}
 use Rattle.engine.specs.Spots.{spotFor}
 use Rattle.engine.proofs.Aimed.{Aimed, tree-few, home-few, phase-few}
 use Rattle.engine.proofs.Spotted.{Says, says}
-use Rattle.engine.proofs.Ways.{done-refused, done-placed}
+use Rattle.engine.proofs.Ways.{refused-so, done-refused, done-placed}
 use Rattle.engine.proofs.place_fitting.Statement.{statement}
 use Rattle.engine.proofs.place_fitting.Tie as tie
 
@@ -24,26 +23,26 @@ module _ (e : tie.After-tree-for) where
   abbrev start : tie.Start
   start = e .before
 
-  sound : Sound (start .args .opening) (start .args .shape) (store (start .args .trees .now) (start .args .ledger .now) (start .args .counters))
+  sound : Sound (start .args .opening) (start .args .shape) (store (start .args .trees .now) (start .args .ledger .now) (start .args .notes .now) (start .args .counters))
   sound = start .pre .0 .sound
 
   -- The tree for the next B2 is that of the phase.
-  tree-is : e .tree-for .result ≡ treeFor (kind (start .args .opening) (item (start .args .size))) (start .args .counters .phase) (start .args .opening .m)
+  tree-is : e .tree-for .result ≡ treeFor (sizeClass (start .args .opening .capacity) (start .args .size)) (start .args .counters .phase) (start .args .opening .m)
   tree-is =
       e .tree-for .ensures
-      ∙ ap (λ (b2 : ℕ). numberOf (treesWith b2) (kind (start .args .opening) (item (start .args .size)))) (sound .b2)
+      ∙ ap (λ (b2 : ℕ). numberOf (treesWith b2) (sizeClass (start .args .opening .capacity) (start .args .size))) (sound .b2)
 
   aimed : Aimed (start .args .opening) (start .args .counters) (start .args .size) (e .tree-for .result)
   aimed = record { some = start .pre .1 .0; fits = start .pre .1 .1; phase = sound .phase; tree = tree-is }
 
   -- What the search says of the item, by what it has for it.
   abbrev Said : Offer → Type 0
-  Said = Says (start .args .opening) (start .args .shape) (store (start .args .trees .now) (start .args .ledger .now) (start .args .counters)) (start .args .size) (e .tree-for .result)
+  Said = Says (start .args .opening) (start .args .shape) (store (start .args .trees .now) (start .args .ledger .now) (start .args .notes .now) (start .args .counters)) (start .args .number) (start .args .size) (e .tree-for .result)
 
   said : {offer : Offer}
       → spotFor (start .args .opening) (start .args .shape) (start .args .trees .now) (start .args .counters .opened) (e .tree-for .result) (start .args .size) ≡ offer
       → Said offer
-  said has = subst Said has (says aimed sound)
+  said has = subst Said has (says aimed (start .args .number) sound)
 
 -- It has none.
 module _ (c : tie.After-enum-told) where
@@ -92,7 +91,7 @@ refuse-requires : tie.Need-refuse-requires
 refuse-requires c κs = search needs
 
 returns : tie.Need-returns
-returns c = rw (c .refuse .ensures) (done-refused (sound (missed (c .before))) (none (c .before)))
+returns c = rw (c .refuse .ensures) (done-refused (sound (missed (c .before))) (λ p r. refused-so _ p _ _ (none (c .before) p r)))
 
 home-of-requires : tie.Need-home-of-requires
 home-of-requires c κs = search needs
@@ -119,12 +118,22 @@ enter-requires c κs =
     let marked = c .before .before in
     let told = marked .before .before in
     let ready = start (searched told) .pre .0 in
-    let row = ready .sound .few (spot told .place) (few told) in
+    let then = ready .sound .represents in
+    let row = few-held (then .records) (spot told .place) (few told) in
     record {
       inside = few told;
-      held-few = omega (arith, row .held, ready .room);
-      held-a-few = omega (arith, row .held-a, ready .room, marked .a-for .ensures, a-few (searched told .tree-for .result));
+      held-few = omega (arith, row .held, then .items, ready .room);
+      held-a-few = omega (arith, row .held-a, then .items, ready .room, marked .a-for .ensures, a-few (searched told .tree-for .result));
     }
+
+cast-lies : tie.Need-cast-lies
+cast-lies c = omega (arith, few (c .before .before .before .before .before))
+
+mul-note : tie.Need-mul-note
+mul-note c = omega (arith, start (searched (c .before .before .before .before .before)) .pre .0 .numbered)
+
+element-set-from-note : tie.Need-element-set-from-note
+element-set-from-note c = omega (arith, start (searched (c .before .before .before .before .before)) .pre .0 .numbered)
 
 show-requires : tie.Need-show-requires
 show-requires c κs =
@@ -147,10 +156,10 @@ returns-2 c =
     let told = classed .before in
     let e = searched told in
     rw (accepted .accept .ensures)
-    (done-placed (aimed e) (rw (classed .home-of .ensures, marked .a-for .ensures) at (entered .enter .ensures)) (c .show .ensures) (few told) (sound e) (spotted told))
+    (done-placed (aimed e) (rw (classed .home-of .ensures, marked .a-for .ensures) at (entered .enter .ensures)) (c .show .ensures) (few told) _ (start e .pre .0) (spotted told))
 
 pub place-fitting-spec : {M : Type 1} → statement M
 place-fitting-spec =
     tie.close
     (tie.spec tree-for-requires find-spot-requires enum-known-offer enum-told refuse-requires returns home-of-requires cast-class a-for-requires accept-requires add-bin
-    cast-bin enter-requires show-requires returns-2)
+    cast-bin enter-requires cast-lies mul-note element-set-from-note show-requires returns-2)

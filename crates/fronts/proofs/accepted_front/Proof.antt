@@ -7,7 +7,7 @@ use lib.ListN.{drop, getD}
 use borrow.Author.Needs.{needs}
 use Rattle.packing.specs.declared.{Command.Command}
 use Rattle.packing.specs.Streams.{commandOf, whole, frontOf, WholeFront}
-use Rattle.packing.proofs.Fronts.{Passing, whole-passed, front-whole, shelve-width}
+use Rattle.packing.proofs.Fronts.{Passing, whole-passed, front-whole}
 use Rattle.fronts.specs.Fronts.{known, tableWidth}
 use Rattle.fronts.proofs.accepted_front.Statement.{statement}
 use Rattle.fronts.proofs.accepted_front.Tie as tie
@@ -23,9 +23,9 @@ shared-slice-read-opcode : tie.Need-shared-slice-read-opcode
 shared-slice-read-opcode c = omega (arith, passing _ (c .before .before .pre) .inside)
 
 command-of-requires : tie.Need-command-of-requires
-command-of-requires c κs e =
+command-of-requires c κs =
     let p = passing _ (c .before .before .pre) in
-    omega (arith, shelve-width _ _ (p .known) e)
+    rw (p .known) (p .inside)
 
 table-width-requires : tie.Need-table-width-requires
 table-width-requires c κs = search needs

@@ -7,7 +7,7 @@ use lib.ListN.{length, getD}
 use borrow.Author.Needs.{needs}
 use Rattle.packing.specs.declared.Width.the-variants.{Known}
 use Rattle.packing.specs.Streams.{widths, lookup, whole}
-use Rattle.packing.proofs.Fronts.{front-unknown, front-second, front-cut, front-whole, shelve-width}
+use Rattle.packing.proofs.Fronts.{front-unknown, front-second, front-cut, front-whole}
 use Rattle.fronts.proofs.read_front.Statement.{statement}
 use Rattle.fronts.proofs.read_front.Tie as tie
 
@@ -61,7 +61,7 @@ returns-3 c =
     sym (front-cut (row (table k)) (width k) (some (table k)) (known k) (c .before .if1 .left) (c .if2 .taken))
 
 command-of-requires : tie.Need-command-of-requires
-command-of-requires c κs e = omega (arith, shelve-width _ _ (known (c .before .before)) e)
+command-of-requires c κs = rw (known (c .before .before)) (omega arith)
 
 returns-4 : tie.Need-returns-4
 returns-4 c =

@@ -10,7 +10,10 @@ returns-2 : tie.Need-returns-2
 returns-2 c = rw (c .match .keys2)
 
 returns-3 : tie.Need-returns-3
-returns-3 c = rw (ne-eqb _ 8 (c .match .rest .0 .1), ne-eqb _ 9 (c .match .rest .1))
+returns-3 c = rw (c .match .keys3)
+
+returns-4 : tie.Need-returns-4
+returns-4 c = rw (ne-eqb _ 8 (c .match .rest .0 .0 .1), ne-eqb _ 9 (c .match .rest .0 .1), ne-eqb _ 10 (c .match .rest .1))
 
 pub item-reason-spec : {M : Type 1} → statement M
-item-reason-spec = tie.close (tie.spec returns returns-2 returns-3)
+item-reason-spec = tie.close (tie.spec returns returns-2 returns-3 returns-4)

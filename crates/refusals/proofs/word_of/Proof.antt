@@ -1,4 +1,4 @@
--- `word_of` meets its contract: a refusal's number is at most 10, so the sum fits 16 bits.
+-- `word_of` meets its contract: a refusal's number is at most 17, so the sum fits 16 bits.
 use mathlib.Core.Path.{sym, ap, _∙_}
 use Prim.Native.Nat.{_+_}
 use native.Mathlib.Omega.{arith}
@@ -17,11 +17,14 @@ enum-known-outcome-2 c = search needs
 enum-known-outcome-3 : tie.Need-enum-known-outcome-3
 enum-known-outcome-3 c = search needs
 
+enum-known-outcome-4 : tie.Need-enum-known-outcome-4
+enum-known-outcome-4 c = search needs
+
 item-number-requires : tie.Need-item-number-requires
 item-number-requires c κs = search needs
 
 add-result : tie.Need-add-result
-add-result c = omega (arith, item-number-few (c .before .before .outcome3 .given .0 .0), c .item-number .ensures)
+add-result c = omega (arith, item-number-few (c .before .before .outcome4 .given .0 .0), c .item-number .ensures)
 
 returns : tie.Need-returns
 returns c = search needs
@@ -30,9 +33,13 @@ returns-2 : tie.Need-returns-2
 returns-2 c = search needs
 
 returns-3 : tie.Need-returns-3
-returns-3 c = ap (λ n. 32768 + n) (c .item-number .ensures) ∙ sym (ap word (c .before .before .outcome3 .given .1))
+returns-3 c = search needs
+
+returns-4 : tie.Need-returns-4
+returns-4 c = ap (λ n. 32768 + n) (c .item-number .ensures) ∙ sym (ap word (c .before .before .outcome4 .given .1))
 
 pub word-of-spec : {M : Type 1} → statement M
 word-of-spec =
     tie.close
-    (tie.spec enum-known-outcome enum-known-outcome-2 enum-known-outcome-3 item-number-requires add-result returns returns-2 returns-3)
+    (tie.spec enum-known-outcome enum-known-outcome-2 enum-known-outcome-3 enum-known-outcome-4 item-number-requires add-result
+    returns returns-2 returns-3 returns-4)

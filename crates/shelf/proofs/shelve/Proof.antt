@@ -4,7 +4,7 @@ use Prim.Native.Nat.{ℕ}
 use borrow.Author.Needs.{needs}
 use Rattle.packing.specs.Refusals.{streamGives}
 use Rattle.packing.specs.Streams.{wordsLent}
-use Rattle.packing.proofs.Theorems.{holds-answered, never-overfull, free-units, loads-add-up, counts}
+use Rattle.packing.proofs.Theorems.{holds-answered, never-overfull, lowest-permitted, free-units, loads-add-up, withdrawals, answers-in-range, refused-left-out, counts}
 use Rattle.worst_case.proofs.OwnPlan.{own-plan-of-stream}
 use Rattle.worst_case.proofs.WorstCase.{worst-case-of-stream}
 use Rattle.shelf.proofs.shelve.Statement.{statement}
@@ -25,7 +25,8 @@ same-length-2 c = search needs
 returns : tie.Need-returns
 returns c =
     let d = c .before .before .before .before in
-    let s = d .before .before .before .before .before .before in (
+    let s = d .before .before .before .before .before .before in
+    let stream = s .args .stream .now in (
       ap streamGives (d .shelve .ensures .0),
       (
         d .shelve .ensures .1 .0,
@@ -38,8 +39,26 @@ returns c =
               (
                 λ o cs e. never-overfull o cs,
                 (
-                  λ o cs e. free-units o cs,
-                  (λ o cs e. loads-add-up o cs, (own-plan-of-stream (s .args .stream .now) (words s), worst-case-of-stream (s .args .stream .now) (words s))),
+                  λ o cs e. lowest-permitted o cs,
+                  (
+                    λ o cs e. free-units o cs,
+                    (
+                      λ o cs e. loads-add-up o cs,
+                      (
+                        λ o cs e. withdrawals o cs,
+                        (
+                          λ o cs e. answers-in-range o cs,
+                          (
+                            λ o cs e. refused-left-out o cs,
+                            (
+                              own-plan-of-stream stream (words s),
+                              worst-case-of-stream stream (words s),
+                            ),
+                          ),
+                        ),
+                      ),
+                    ),
+                  ),
                 ),
               ),
             ),

@@ -73,7 +73,7 @@ shape-of-requires c κs = in-limits (told c .opening .given .0 .0) (runnable-who
 
 answer-all-requires : tie.Need-answer-all-requires
 answer-all-requires c κs =
-    let s = c .before .before .before .before in
+    let s = c .before .before .before .before .before in
     let e = s .before in
     (runs e, rw (read e .before .before .before .before .pre) (empty-store _ _ rowWords refl (runnable-whole (runs e) .opening-good) (s .shape-of .ensures)))
 

@@ -16,11 +16,11 @@ use Rattle.stream.proofs.run.answer_all.Statement.{statement}
 use Rattle.stream.proofs.run.answer_all.Tie as tie
 
 abbrev Inv-loop : tie.InvT-loop
-Inv-loop stream opening shape trees₀ ledger₀ answers₀ free₀ counters₀ rest₀ done₀ trees ledger answers free counters rest done =
-    Going opening shape stream answers₀ free₀ answers free trees ledger rest counters done
+Inv-loop stream opening shape trees₀ ledger₀ notes₀ answers₀ free₀ counters₀ rest₀ done₀ trees ledger notes answers free counters rest done =
+    Going opening shape stream answers₀ free₀ answers free trees ledger notes rest counters done
 
 abbrev μ-loop : tie.MeasureT-loop
-μ-loop stream opening shape trees₀ ledger₀ answers₀ free₀ counters₀ rest₀ done₀ trees ledger answers free counters rest done = length rest
+μ-loop stream opening shape trees₀ ledger₀ notes₀ answers₀ free₀ counters₀ rest₀ done₀ trees ledger notes answers free counters rest done = length rest
 
 -- Where the front is read: the turn, its command, and that this stands inside.
 module _ (c : tie.After-accepted-front Inv-loop μ-loop) where
@@ -48,7 +48,7 @@ module _ (c : tie.After-word-of Inv-loop μ-loop) where
   answered = c .before .before .before
 
   abbrev read : tie.After-accepted-front Inv-loop μ-loop
-  read = answered .before .before .before .before
+  read = answered .before .before .before .before .before
 
   abbrev answer : Answer
   answer = answered .answer .result .answer
@@ -78,7 +78,9 @@ add-number : tie.Need-add-number Inv-loop μ-loop
 add-number c = omega (arith, going-few (turn (c .before) .loop .inv))
 
 answer-requires : tie.Need-answer-requires Inv-loop μ-loop
-answer-requires c κs = going-ready (turn (c .before .before .before) .loop .inv)
+answer-requires c κs =
+    let front-read = c .before .before .before .before in
+    going-ready (turn front-read .loop .inv) (command front-read) (width front-read) (front front-read)
 
 sub-place : tie.Need-sub-place Inv-loop μ-loop
 sub-place c = omega (arith, c .before .before .answer .ensures .numbered)
@@ -120,7 +122,7 @@ loop-again c =
     let told = c .before .before in
     let w = told .before in
     let f = read w in
-    going-next (turn f .loop .inv) (command f) (width f) (front f) _ _ _ _ _ _ _ (answered w .answer .ensures) (w .word-of .ensures) (told .free-units-of .ensures)
+    going-next (turn f .loop .inv) (command f) (width f) (front f) _ _ _ _ _ _ _ _ (answered w .answer .ensures) (w .word-of .ensures) (told .free-units-of .ensures)
     (part-is (rest f) (width f + 1) (inside f))
 
 same-length : tie.Need-same-length Inv-loop μ-loop

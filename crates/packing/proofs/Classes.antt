@@ -1,0 +1,65 @@
+-- A bin keeps its number and its class: the classes by number are those of before, and then some.
+use Prim.Native.Nat.{ℕ, suc, _+_}
+use mathlib.Core.Path.{_≡_, refl, sym, ap, _∙_}
+use mathlib.Core.Bool.{Bool, true, false}
+use mathlib.Core.List.{List, [], _∷_, _++_, map, map-map, append-assoc, append-nil}
+use native.Mathlib.Omega.{arith}
+use lib.ListN.{length, take, drop, length-map}
+use lib.Seq.{take-at, take-add}
+use Rattle.packing.specs.Prelude.{if_then_else_, Opening, Command, Outcome}
+use Rattle.packing.specs.Bins.{Item, Bin, Packing, empty, opened, add}
+use Rattle.packing.specs.Placing.{put, classOf, target, takes, placed}
+use Rattle.packing.specs.Withdrawing.{emptiedOf, without}
+use Rattle.packing.specs.Run.{item, Step, packingFrom, packing}
+use Rattle.packing.specs.Claims.{classesOf}
+use Rattle.packing.proofs.Putting.{fresh}
+use Rattle.packing.proofs.Moves.{Move, places, withdraws, counts, refuses, Trace, ends, moves, trace-from}
+use Rattle.packing.proofs.Running.{packing-append}
+
+-- The classes of q are those of p, and then some.
+record Grown (p q : Packing) : Type 0 where
+  more : List ℕ
+  grown : classesOf q ≡ classesOf p ++ more
+
+grown-same : (p q : Packing) → classesOf q ≡ classesOf p → Grown p q
+grown-same p q e = record { more = []; grown = e ∙ sym (append-nil (classesOf p)) }
+
+put-classes : (test : Bin → Bool) (new : Bin) (i : Item) (bins : List Bin)
+    → (more : List ℕ) × (map (λ b. b .class) (put test new i bins) ≡ map (λ b. b .class) bins ++ more)
+unfolding put
+put-classes test new i [] = (new .class ∷ [], refl)
+put-classes test new i (b ∷ bs) = go (test b) (put-classes test new i bs)
+  where
+    go : (t : Bool) → (more : List ℕ) × (map (λ b. b .class) (put test new i bs) ≡ map (λ b. b .class) bs ++ more)
+        → (more : List ℕ) × (map (λ b. b .class) (if t then add i b ∷ bs else b ∷ put test new i bs) ≡ b .class ∷ (map (λ b. b .class) bs ++ more))
+    go true r = ([], ap (λ l. b .class ∷ l) (sym (append-nil (map (λ b. b .class) bs))))
+    go false r = (r .0, ap (λ l. b .class ∷ l) (r .1))
+
+module _ (o : Opening) where
+  move-grown : {n : ℕ} {p q : Packing} {c : Command} {a : Outcome} → Move o p n c a q → Grown p q
+  unfolding placed without
+  move-grown {n = n} {p = p} (places {s = s} h) =
+      let i = item n s in
+      let put = put-classes (takes o p i) (fresh (classOf (target o p i))) i (p .bins) in
+      record { more = put .0; grown = put .1 }
+  move-grown {p = p} {q = q} (withdraws {named = named} e) = grown-same p q (map-map (λ b. b .class) (emptiedOf named) (p .bins))
+  move-grown {p = p} counts = grown-same p p refl
+  move-grown {p = p} (refuses z) = grown-same p p refl
+
+  trace-grown : {n : ℕ} {p q : Packing} {ts : List Step} → Trace o n p ts q → Grown p q
+  trace-grown {p = p} ends = grown-same p p refl
+  trace-grown (moves {p = p} m r) =
+      let here = move-grown m in
+      let later = trace-grown r in
+      record { more = here .more ++ later .more; grown = later .grown ∙ ap (λ l. l ++ later .more) (here .grown) ∙ append-assoc (classesOf p) (here .more) (later .more) }
+
+  pub classes-stay : (cs : List Command) (i j : ℕ)
+      → take (opened (packing o (take i cs))) (classesOf (packing o (take (i + j) cs))) ≡ classesOf (packing o (take i cs))
+  classes-stay cs i j =
+      let p = packing o (take i cs) in
+      let n = suc (length (take i cs)) in
+      let g = trace-grown (trace-from o (take j (drop i cs)) p n) in
+      let later : packing o (take (i + j) cs) ≡ packingFrom o p n (take j (drop i cs)) =
+      ap (packing o) (take-add i j cs) ∙ packing-append o (take i cs) (take j (drop i cs)) empty 1 n (omega arith) in
+      ap (λ q. take (opened p) (classesOf q)) later ∙ ap (take (opened p)) (g .grown)
+      ∙ take-at (classesOf p) (g .more) (opened p) (length-map (p .bins) (λ b. b .class))

@@ -1,0 +1,2 @@
+-- Why a withdrawal is the model's.
+pub mod Ways

@@ -1,0 +1,2 @@
+-- What the withdrawal asks of the store.
+pub mod Lying

@@ -1,0 +1,90 @@
+// "Withdrawn masters": command 04 takes out the item that the command of another number shelved. The note of that number tells where it lies, so there is
+// no search and no walk: one row of the ledger is written, one note, and the row is shown in the trees.
+use aim::Counters;
+use engine::Answered;
+use ledger::BINS;
+use ledger::COLUMNS;
+use ledger::FREE;
+use ledger::NOTE_BIN;
+use ledger::NOTE_SIZE;
+use ledger::NOTE_WORDS;
+use ledger::NUMBERS;
+use packing::Answer;
+use packing::ItemReason;
+use packing::Opening;
+use packing::Outcome;
+use tournament::ROW_WORDS;
+use tournament::Shape;
+ghost use Rattle.packing.specs.declared.Command.the-variants.{Withdraw};
+ghost use Rattle.engine.specs.Store.{store, Sound};
+ghost use Rattle.engine.specs.Done.{Done};
+ghost use Rattle.withdrawal.specs.Lying.{Lies};
+
+// Takes out the item of a number that has one on the shelf, and answers the bin that it left, with the units that are then free there.
+fn take_out(
+    trees: &mut [u32; ROW_WORDS],
+    ledger: &mut [[u32; COLUMNS]; BINS],
+    notes: &mut [[u32; NOTE_WORDS]; NUMBERS],
+    shape: Shape,
+    counters: Counters,
+    opening: Opening,
+    number: usize,
+    named: u32,
+) -> Answered
+    requires { ⌜ Lies opening shape named (store (now trees) (now ledger) (now notes) counters) ⌝ }
+    ensures { λ r. ⌜ Done opening shape (store (now (trees .entry)) (now (ledger .entry)) (now (notes .entry)) counters) number (Withdraw named) (r .answer) (store (now (trees .exit)) (now (ledger .exit)) (now (notes .exit)) (r .next)) ⌝ }
+{
+    let row_named = named as usize;
+    let note = notes[row_named];
+    let size = note[NOTE_SIZE];
+    let bin = note[NOTE_BIN] as u16;
+    let place = bin as usize - 1;
+    let a = aim::a_of(size, opening.capacity);
+    let next = aim::withdraw(counters);
+    let row = ledger::leave(ledger, place, size, a);
+    let none = [0u32; NOTE_WORDS];
+    notes[row_named] = none;
+    let free = row[FREE];
+    let answer = Answer {
+        number,
+        outcome: Outcome::Withdrawn { bin, free },
+    };
+    // Last, as where an item is placed.
+    index::show_freed(trees, shape, place, row);
+    Answered { answer, next }
+}
+
+// Answers command 04: 17 where no item of that number is on the shelf. A number past the notes is no command's; the note of any other that has none, its
+// own and later ones included, has no bin.
+pub fn withdraw(
+    trees: &mut [u32; ROW_WORDS],
+    ledger: &mut [[u32; COLUMNS]; BINS],
+    notes: &mut [[u32; NOTE_WORDS]; NUMBERS],
+    shape: Shape,
+    counters: Counters,
+    opening: Opening,
+    number: usize,
+    named: u32,
+) -> Answered
+    requires { ⌜ Sound opening shape (store (now trees) (now ledger) (now notes) counters) ⌝ }
+    ensures { λ r. ⌜ Done opening shape (store (now (trees .entry)) (now (ledger .entry)) (now (notes .entry)) counters) number (Withdraw named) (r .answer) (store (now (trees .exit)) (now (ledger .exit)) (now (notes .exit)) (r .next)) ⌝ }
+{
+    let place = named as usize;
+    if NUMBERS <= place {
+        return engine::refuse(number, ItemReason::NotShelved, counters);
+    }
+    let note = notes[place];
+    if note[NOTE_BIN] == 0 {
+        return engine::refuse(number, ItemReason::NotShelved, counters);
+    }
+    take_out(
+        trees,
+        ledger,
+        notes,
+        shape,
+        counters,
+        opening,
+        number,
+        named,
+    )
+}
