@@ -5,7 +5,7 @@
  *
  * Link with libshelf.a, for x86-64 Linux: `rt staticlib shelf` proves the
  * library and writes target/staticlib/libshelf.a. A call allocates nothing and
- * needs about 29 KB of stack (shelf_stream), 54 KB (shelf_sheet) or 17 KB
+ * needs about 62 KB of stack (shelf_stream), 87 KB (shelf_sheet) or 17 KB
  * (shelf_check_plan).
  *
  * The calls are total: every input within the rules on pointers below has the
@@ -30,7 +30,7 @@
  * a row, a result or a refusal is added or changes. Header and libshelf.a must
  * be of one version: nothing checks it.
  */
-#define SHELF_VERSION 2
+#define SHELF_VERSION 3
 
 /* Limits. Capacity, stock and sizes are at least 1; what is counted may be 0. */
 #define SHELF_MAX_CAPACITY 16777216  /* units of a cartridge */
@@ -64,7 +64,9 @@ enum {
     SHELF_REFUSAL_ENTRY_SIZE = 13,
     SHELF_REFUSAL_ENTRY_BIN = 14,
     SHELF_REFUSAL_OVERFULL = 15,
-    SHELF_REFUSAL_OTHER_ITEMS = 16
+    SHELF_REFUSAL_OTHER_ITEMS = 16,
+    /* Of a withdrawal. */
+    SHELF_REFUSAL_NOT_SHELVED = 17
 };
 
 #ifdef __cplusplus
@@ -79,15 +81,17 @@ extern "C" {
  *                  01  capacity (4 bytes), stock (2), m (1)   opening
  *                  02  size (4 bytes)                         shelve a master
  *                  03                                         count cartridges
+ *                  04  command number (2 bytes)               take a master out
  *              The opening is the first command and comes once. The commands
  *              after it are numbered from 1.
  * answers      answers_len words.
  * free_units   free_len words.
  *
  * If the stream is accepted, the result is
- *     masters accepted * 2^16 + cartridges opened
- * (each below 2^16; bits 32 up are 0 in this version), and answers[n - 1] holds
- * the answer to command n:
+ *     masters still shelved * 2^16 + cartridges opened
+ * (each below 2^16; bits 32 up are 0 in this version). Still shelved are the
+ * masters accepted and not taken out; opened is every cartridge that was opened,
+ * emptied or not. answers[n - 1] holds the answer to command n:
  *     to 02   the number of the cartridge the master lies in, 1 to the stock;
  *             cartridges are numbered in order of opening; or
  *             32768 + 8    the size is 0
@@ -95,11 +99,20 @@ extern "C" {
  *             32768 + 10   a new cartridge is called for, and the stock is spent
  *             of these the first that applies; a refused master leaves the
  *             shelf as it was, and the stream goes on
- *     to 03   the number of cartridges opened, 0 to the stock.
+ *     to 03   the number of cartridges opened, 0 to the stock
+ *     to 04   the number of the cartridge that the master left, which is the
+ *             answer to the command named; or
+ *             32768 + 17   no master of that number is on the shelf: the command
+ *                          named is not an earlier 02, or was refused, or its
+ *                          master is out already
+ *             and then the shelf is as it was, and the stream goes on. An
+ *             emptied cartridge stays opened, keeps its number and class, and is
+ *             chosen like any other of its class.
  * free_units[n - 1] holds, where command n is answered by a master's cartridge,
- * the units left free on that cartridge just after the master: the capacity less
- * the cartridge's load then. For a refused master, and for 03, it holds 0. Words
- * past the last command are untouched, in either row.
+ * the units free on that cartridge just after the command, with the master on it
+ * (02) or without (04): the capacity less the cartridge's load then. For a
+ * refused command, and for 03, it holds 0. Words past the last command are
+ * untouched, in either row.
  *
  * If the stream is refused, the result is
  *     2^63 + number * 2^32 + offset
@@ -108,7 +121,7 @@ extern "C" {
  *     number  offset                    condition
  *     1       0                         the stream is empty, or its first byte
  *                                       is not 01
- *     2       of the command byte       the command byte is not 01, 02 or 03
+ *     2       of the command byte       the command byte is not 01, 02, 03 or 04
  *     3       of the command byte       operands cut short by the stream's end
  *     4       of the command byte       a second 01, cut short or not
  *     5       0                         capacity, stock or m of the opening
@@ -127,7 +140,7 @@ uint64_t shelf_stream(const uint8_t *stream, size_t stream_len,
 
 /*
  * Writes the vault sheet of a stream: a text, with a line for each cartridge
- * that is opened once all of the stream is shelved, and for no other.
+ * that is opened once the whole stream is done, emptied or not, and for no other.
  *
  * stream       stream_len bytes, only read, as for shelf_stream.
  * sheet        SHELF_SHEET_BYTES bytes.
@@ -143,8 +156,8 @@ uint64_t shelf_stream(const uint8_t *stream, size_t stream_len,
  * in rising number. Before each 50 of them, or what is left of 50, stands
  *     columns     1-4     6-8          others
  *     holds       PAGE    page number  spaces
- * with pages numbered from 1. Where nothing is opened there is no line. The
- * loads add up to the sizes of the masters accepted.
+ * with pages numbered from 1. Where nothing is opened there is no line. Load and
+ * masters held are of the masters still shelved: the loads add up to their sizes.
  *
  * Where there is no sheet, the text is one line, not filled up:
  *     X number offset     the stream is refused, as by shelf_stream with rows of
@@ -212,13 +225,13 @@ static inline uint32_t shelf_place(uint64_t result)
     return result & 0xffffffffu;
 }
 
-/* Of an accepted stream the masters accepted. */
+/* Of an accepted stream the masters still shelved. */
 static inline uint32_t shelf_items(uint64_t result)
 {
     return (result >> 16) & 0xffffu;
 }
 
-/* Of an accepted stream the cartridges opened. */
+/* Of an accepted stream the cartridges opened, emptied ones too. */
 static inline uint32_t shelf_opened(uint64_t result)
 {
     return result & 0xffffu;
@@ -228,7 +241,7 @@ static inline uint32_t shelf_opened(uint64_t result)
  * Reading an answer word of an accepted stream.
  */
 
-/* Whether the master is refused. */
+/* Whether the command is refused. */
 static inline int shelf_answer_is_refused(uint16_t word)
 {
     return word >= 0x8000u;
@@ -276,6 +289,8 @@ static inline const char *shelf_refusal_name(uint32_t number)
         return "with this entry its cartridge exceeds the capacity";
     case SHELF_REFUSAL_OTHER_ITEMS:
         return "the plan is not of these masters";
+    case SHELF_REFUSAL_NOT_SHELVED:
+        return "no master of that number is on the shelf";
     default:
         return "no refusal has this number";
     }

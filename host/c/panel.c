@@ -1,5 +1,5 @@
-/* A panel's round: open a shelf, shelve, read the answers, print the vault sheet,
- * check a plan. */
+/* A panel's round: open a shelf, shelve, take a master out again, read the
+ * answers, print the vault sheet, check a plan. */
 
 #include <inttypes.h>
 #include <stdio.h>
@@ -7,9 +7,10 @@
 #include "shelf.h"
 
 enum { CAPACITY = 60, STOCK = 4, M = 6 };
-enum { MASTERS = 9, COMMANDS = MASTERS + 1 };
+enum { MASTERS = 9, WITHDRAWALS = 2, COMMANDS = MASTERS + 1 + WITHDRAWALS };
 
 static const uint32_t masters[MASTERS] = {35, 22, 22, 22, 22, 22, 22, 20, 61};
+static const uint16_t withdrawals[WITHDRAWALS] = {3, 8};
 
 static uint8_t stream[8 + 5 * COMMANDS];
 static size_t length;
@@ -28,6 +29,20 @@ static void print_sheet(void)
     fwrite(sheet, 1, shelf_sheet(stream, length, sheet), stdout);
 }
 
+/* Prints the answer of command i + 1, to a master or to a withdrawal; whether it
+ * is accepted. */
+static int answered(const uint16_t *answers, const uint32_t *free_units, size_t i)
+{
+    uint32_t refusal = shelf_answer_refusal(answers[i]);
+
+    if (refusal == 0)
+        printf("cartridge %" PRIu16 ", %" PRIu32 " free\n", answers[i],
+               free_units[i]);
+    else
+        printf("refused %" PRIu32 ", %s\n", refusal, shelf_refusal_name(refusal));
+    return refusal == 0;
+}
+
 static void report(const char *plan, uint64_t result)
 {
     uint32_t refusal = shelf_refusal(result);
@@ -44,6 +59,7 @@ int main(void)
     uint16_t answers[COMMANDS];
     uint32_t free_units[COMMANDS];
     uint32_t sizes[MASTERS], bins[MASTERS];
+    int shelved[MASTERS];
     size_t entries = 0, i;
     uint64_t result;
     uint32_t refusal, opened;
@@ -57,6 +73,10 @@ int main(void)
         put(masters[i], 4);
     }
     put(0x03, 1);
+    for (i = 0; i < WITHDRAWALS; i++) {
+        put(0x04, 1);
+        put(withdrawals[i], 2);
+    }
 
     result = shelf_stream(stream, length, answers, COMMANDS, free_units,
                           COMMANDS);
@@ -67,27 +87,28 @@ int main(void)
         return 1;
     }
 
-    /* The accepted masters and where they lie are a plan of their own. */
     for (i = 0; i < MASTERS; i++) {
-        if (shelf_answer_is_refused(answers[i])) {
-            refusal = shelf_answer_refusal(answers[i]);
-            printf("master of %" PRIu32 ": refused %" PRIu32 ", %s\n",
-                   masters[i], refusal, shelf_refusal_name(refusal));
-        } else {
-            printf("master of %" PRIu32 ": cartridge %" PRIu16 ", %" PRIu32
-                   " free\n",
-                   masters[i], answers[i], free_units[i]);
-            sizes[entries] = masters[i];
-            bins[entries] = answers[i];
-            entries++;
-        }
+        printf("master of %" PRIu32 ": ", masters[i]);
+        shelved[i] = answered(answers, free_units, i);
     }
     printf("%" PRIu16 " cartridges opened\n", answers[MASTERS]);
+    for (i = 0; i < WITHDRAWALS; i++) {
+        printf("withdrawal of %" PRIu16 ": ", withdrawals[i]);
+        if (answered(answers, free_units, MASTERS + 1 + i))
+            shelved[withdrawals[i] - 1] = 0;
+    }
     opened = shelf_opened(result);
     printf("%" PRIu32 " masters in %" PRIu32 " cartridges\n",
            shelf_items(result), opened);
     print_sheet();
 
+    /* The masters still shelved and where they lie are a plan of their own. */
+    for (i = 0; i < MASTERS; i++)
+        if (shelved[i]) {
+            sizes[entries] = masters[i];
+            bins[entries] = answers[i];
+            entries++;
+        }
     report("the shelf's own plan",
            shelf_check_plan(sizes, entries, bins, entries, sizes, entries,
                             CAPACITY, opened));

@@ -6,8 +6,8 @@
 #include "shelf.h"
 #include "shelf.h"
 
-#if SHELF_VERSION != 2
-#error "these are the checks of version 2"
+#if SHELF_VERSION != 3
+#error "these are the checks of version 3"
 #endif
 
 #if SHELF_MIN_M > SHELF_MAX_M || SHELF_MAX_CAPACITY < SHELF_MAX_SHEET_STREAM
@@ -59,13 +59,14 @@ int check_header(void)
     CHECK(shelf_answer_refusal(32776) == SHELF_REFUSAL_SIZE_ZERO);
     CHECK(shelf_answer_refusal(32777) == SHELF_REFUSAL_SIZE_ABOVE_CAPACITY);
     CHECK(shelf_answer_refusal(32778) == SHELF_REFUSAL_STOCK_SPENT);
+    CHECK(shelf_answer_refusal(32785) == SHELF_REFUSAL_NOT_SHELVED);
 
-    /* Sixteen names, no two alike, and one for all other numbers. */
-    for (number = 0; number <= SHELF_REFUSAL_OTHER_ITEMS; number++)
+    /* Seventeen names, no two alike, and one for all other numbers. */
+    for (number = 0; number <= SHELF_REFUSAL_NOT_SHELVED; number++)
         for (other = 0; other < number; other++)
             CHECK(strcmp(shelf_refusal_name(number),
                          shelf_refusal_name(other)) != 0);
-    CHECK(strcmp(shelf_refusal_name(17), shelf_refusal_name(0)) == 0);
+    CHECK(strcmp(shelf_refusal_name(18), shelf_refusal_name(0)) == 0);
     CHECK(strcmp(shelf_refusal_name(0xffffffff), shelf_refusal_name(0)) == 0);
     return 0;
 }

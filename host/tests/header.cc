@@ -17,9 +17,10 @@ int check_header();
 
 namespace {
 
-// A capacity of 60, a stock of 1, m 6; masters of 35 and of 40, and a count.
-const std::vector<uint8_t> stream = {1, 0, 0, 0, 60, 0, 1, 6, 2, 0, 0,
-                                     0, 35, 2, 0, 0, 0, 40, 3};
+// A capacity of 60, a stock of 1, m 6; masters of 35 and of 40, a count, and
+// the withdrawal of either.
+const std::vector<uint8_t> stream = {1, 0, 0, 0, 60, 0, 1, 6, 2, 0, 0, 0, 35,
+                                     2, 0, 0, 0, 40, 3, 4, 0, 1, 4, 0, 2};
 
 uint64_t shelve(std::vector<uint16_t> &answers, std::vector<uint32_t> &free_units)
 {
@@ -50,15 +51,18 @@ int check_header()
     uint64_t result = shelve(answers, free_units);
 
     CHECK(!shelf_is_refused(result));
-    CHECK(shelf_items(result) == 1 && shelf_opened(result) == 1);
+    CHECK(shelf_items(result) == 0 && shelf_opened(result) == 1);
     CHECK(!shelf_answer_is_refused(answers[0]));
     CHECK(answers[0] == 1 && free_units[0] == 25);
     CHECK(shelf_answer_refusal(answers[1]) == SHELF_REFUSAL_STOCK_SPENT);
     CHECK(free_units[1] == 0);
     CHECK(answers[2] == 1 && free_units[2] == 0);
-    CHECK(answers[3] == 7 && free_units[3] == 7);
+    CHECK(answers[3] == 1 && free_units[3] == 60);
+    CHECK(shelf_answer_refusal(answers[4]) == SHELF_REFUSAL_NOT_SHELVED);
+    CHECK(free_units[4] == 0);
+    CHECK(answers[5] == 7 && free_units[5] == 7);
 
-    free_units.resize(2);
+    free_units.resize(4);
     result = shelve(answers, free_units);
     CHECK(shelf_refusal(result) == SHELF_REFUSAL_TOO_FEW_WORDS);
     CHECK(shelf_place(result) == stream.size());

@@ -1,5 +1,7 @@
-//! A panel's round: open a shelf, shelve, read the answers, print the vault
-//! sheet, check a plan.
+//! A panel's round: open a shelf, shelve, take a master out again, read the
+//! answers, print the vault sheet, check a plan.
+
+use std::collections::BTreeMap;
 
 use shelf::{Answer, Command, Entry, StreamBuilder};
 
@@ -9,7 +11,7 @@ fn main() {
     for size in [35, 22, 22, 22, 22, 22, 22, 20, 61] {
         stream.shelve(size);
     }
-    stream.count();
+    stream.count().withdraw(3).withdraw(8);
 
     let (mut words, mut free) = stream.rows();
     let totals = match shelf::shelve(stream.bytes(), &mut words, &mut free) {
@@ -20,25 +22,34 @@ fn main() {
         }
     };
 
-    // The accepted masters and where they lie are a plan of their own.
-    let mut plan = Vec::new();
-    for answered in shelf::answers(stream.bytes(), &words, &free) {
+    // The masters still shelved, by command, and where they lie.
+    let mut shelved = BTreeMap::new();
+    for (command, answered) in (1..).zip(shelf::answers(stream.bytes(), &words, &free)) {
         match answered {
             (Command::Shelve { size }, Answer::Placed { bin, free }) => {
                 println!("master of {size}: cartridge {bin}, {free} free");
                 let bin = bin.into();
-                plan.push(Entry { size, bin });
+                shelved.insert(command, Entry { size, bin });
             }
             (Command::Shelve { size }, Answer::Refused(why)) => {
                 println!("master of {size}: refused {}, {why}", why.number());
             }
+            (Command::Withdraw { number }, Answer::Withdrawn { bin, free }) => {
+                println!("withdrawal of {number}: cartridge {bin}, {free} free");
+                shelved.remove(&number);
+            }
+            (Command::Withdraw { number }, Answer::Refused(why)) => {
+                println!("withdrawal of {number}: refused {}, {why}", why.number());
+            }
             (_, Answer::Counted { opened }) => println!("{opened} cartridges opened"),
-            (Command::Count, _) => unreachable!("a count is answered with a count"),
+            _ => unreachable!("an answer is that of its command"),
         }
     }
     println!("{} masters in {} cartridges", totals.items, totals.opened);
     print!("{}", shelf::sheet(stream.bytes()).text());
 
+    // They are a plan of their own.
+    let mut plan: Vec<Entry> = shelved.into_values().collect();
     let items: Vec<u32> = plan.iter().map(|entry| entry.size).collect();
     match shelf::check_plan(&plan, &items, CAPACITY, totals.opened.into()) {
         Ok(()) => println!("the shelf's own plan: passed"),

@@ -4,14 +4,14 @@
 //! Build a stream, lend it with two rows of words, read the answers:
 //!
 //! ```
-//! use shelf::{Answer, ItemRefusal, StreamBuilder};
+//! use shelf::{Answer, CommandRefusal, StreamBuilder};
 //!
 //! let mut stream = StreamBuilder::open(60, 2, 6); // capacity 60, stock 2, every 6th B2
-//! stream.shelve(35).shelve(30).count().shelve(40);
+//! stream.shelve(35).shelve(30).count().shelve(40).withdraw(1);
 //!
 //! let (mut words, mut free) = stream.rows();
 //! let totals = shelf::shelve(stream.bytes(), &mut words, &mut free).expect("a well-formed stream");
-//! assert_eq!((totals.items, totals.opened), (2, 2));
+//! assert_eq!((totals.items, totals.opened), (1, 2)); // still shelved, and opened
 //!
 //! let answers = shelf::answers(stream.bytes(), &words, &free);
 //! let answers: Vec<Answer> = answers.map(|(_command, answer)| answer).collect();
@@ -19,19 +19,21 @@
 //!     Answer::Placed { bin: 1, free: 25 }, // 25 units are left on it just after the item
 //!     Answer::Placed { bin: 2, free: 30 },
 //!     Answer::Counted { opened: 2 },
-//!     Answer::Refused(ItemRefusal::StockSpent),
+//!     Answer::Refused(CommandRefusal::StockSpent),
+//!     Answer::Withdrawn { bin: 1, free: 60 }, // the item of command 1 has left it
 //! ]);
 //! ```
 //!
-//! The number of a bin is its place in the order of opening, from 1. Refusals
-//! keep the numbers 1 to 16 of the specification; `number` gives them.
+//! The number of a bin is its place in the order of opening, from 1. A bin that
+//! is emptied stays opened and is chosen again like any other of its class.
+//! Refusals keep the numbers 1 to 17 of the specification; `number` gives them.
 
 mod refusals;
 mod results;
 mod sheet;
 mod stream;
 
-pub use refusals::{ItemRefusal, PlanFault, PlanRefusal, StreamFault, StreamRefusal};
+pub use refusals::{CommandRefusal, PlanFault, PlanRefusal, StreamFault, StreamRefusal};
 pub use sheet::{Row, Sheet};
 pub use stream::{answers, commands, Answer, Answers, Command, Commands, Opening, StreamBuilder};
 
@@ -82,9 +84,9 @@ mod ffi {
 /// What an accepted stream returns.
 #[derive(Debug, Clone, Copy, PartialEq, Eq)]
 pub struct Totals {
-    /// The items accepted.
+    /// The items still shelved: those accepted and not taken out.
     pub items: u16,
-    /// The bins opened.
+    /// The bins opened, emptied or not.
     pub opened: u16,
 }
 
@@ -101,9 +103,10 @@ pub struct Entry {
 ///
 /// On success word `n - 1` of each row answers command `n` after the opening:
 /// in `answers` by the item's bin, the count or the refusal, in `free` by the
-/// units left free on that bin just after the item, and by 0 where no item was
-/// placed ([`answers`] reads them). The words past the last command are
-/// untouched. A refused stream leaves every word of both rows untouched.
+/// units free on that bin just after the item was placed or taken out, and by 0
+/// for a count or a refusal ([`answers`] reads them). The words past the last
+/// command are untouched. A refused stream leaves every word of both rows
+/// untouched.
 ///
 /// ```
 /// use shelf::{StreamBuilder, StreamFault};
@@ -143,20 +146,21 @@ pub fn shelve(
     }
 }
 
-/// The vault sheet of a stream: what every opened bin holds once all of the
-/// stream is shelved, as text and as numbers.
+/// The vault sheet of a stream: what every opened bin holds once the whole
+/// stream is done, as text and as numbers. A bin that is emptied has its line
+/// too.
 ///
 /// ```
 /// use shelf::{Row, StreamBuilder};
 ///
 /// let mut stream = StreamBuilder::open(60, 4, 6);
-/// stream.shelve(35).shelve(20).shelve(61).shelve(20);
+/// stream.shelve(35).shelve(20).shelve(61).shelve(20).withdraw(1);
 ///
 /// let sheet = shelf::sheet(stream.bytes());
 /// let lines: Vec<&str> = sheet.text().lines().collect();
 /// assert_eq!(lines, [
 ///     "PAGE   1                                ",
-///     "   1 1       35       25    1           ",
+///     "   1 1        0       60    0           ",
 ///     "   2 4       40       20    2           ",
 /// ]);
 /// assert_eq!(sheet.rows()[1], Row { number: 2, class: 4, load: 40, free: 20, held: 2 });
@@ -307,11 +311,11 @@ mod tests {
         for number in 0..=20 {
             let found = [
                 StreamFault::from_number(number).map(StreamFault::number),
-                ItemRefusal::from_number(number).map(ItemRefusal::number),
+                CommandRefusal::from_number(number).map(CommandRefusal::number),
                 PlanFault::from_number(number).map(PlanFault::number),
             ];
             let known: Vec<u32> = found.into_iter().flatten().collect();
-            let expected: &[u32] = if (1..=16).contains(&number) {
+            let expected: &[u32] = if (1..=17).contains(&number) {
                 &[number]
             } else {
                 &[]

@@ -52,11 +52,13 @@ refusals! {
 }
 
 refusals! {
-    /// Why one item was not shelved. The stream goes on after it.
-    ItemRefusal {
+    /// Why one command was refused: 8 to 10 are of an item, 17 is of a
+    /// withdrawal. It changes nothing, and the stream goes on after it.
+    CommandRefusal {
         SizeZero = 8 "size 0"
         SizeAboveCapacity = 9 "size above the capacity"
         StockSpent = 10 "a new cartridge is called for and the stock is spent"
+        NotShelved = 17 "no master of that number is on the shelf"
     }
 }
 

@@ -169,6 +169,18 @@ mod tests {
     }
 
     #[test]
+    fn an_emptied_bin_keeps_its_row() {
+        let mut stream = StreamBuilder::open(60, 4, 6);
+        stream.shelve(35).shelve(22).shelve(22);
+        stream.withdraw(1).withdraw(3).withdraw(1);
+        let rows = [row(1, 1, 0, 60, 0), row(2, 3, 22, 38, 1)];
+        assert_eq!(sheet(stream.bytes()).rows(), rows);
+        stream.shelve(40).withdraw(2);
+        let rows = [row(1, 1, 40, 20, 1), row(2, 3, 0, 60, 0)];
+        assert_eq!(sheet(stream.bytes()).rows(), rows);
+    }
+
+    #[test]
     fn nothing_opened_has_no_page() {
         let mut stream = StreamBuilder::open(60, 4, 6);
         stream.count().shelve(0).shelve(61);

@@ -3,11 +3,12 @@
 use std::iter::Zip;
 use std::slice::Iter;
 
-use crate::ItemRefusal;
+use crate::CommandRefusal;
 
 const OPEN: u8 = 0x01;
 const SHELVE: u8 = 0x02;
 const COUNT: u8 = 0x03;
+const WITHDRAW: u8 = 0x04;
 
 const OPENING_LEN: usize = 8;
 
@@ -55,9 +56,9 @@ impl Opening {
 ///
 /// ```
 /// let mut stream = shelf::StreamBuilder::open(60, 4, 6);
-/// stream.shelve(35).count();
-/// assert_eq!(stream.commands(), 2);
-/// assert_eq!(stream.bytes(), [1, 0, 0, 0, 60, 0, 4, 6, 2, 0, 0, 0, 35, 3]);
+/// stream.shelve(35).count().withdraw(1);
+/// assert_eq!(stream.commands(), 3);
+/// assert_eq!(stream.bytes(), [1, 0, 0, 0, 60, 0, 4, 6, 2, 0, 0, 0, 35, 3, 4, 0, 1]);
 /// ```
 #[derive(Debug, Clone, PartialEq, Eq)]
 pub struct StreamBuilder {
@@ -91,7 +92,23 @@ impl StreamBuilder {
         self
     }
 
-    /// The number of commands after the opening.
+    /// Take out the item that the command of this number shelved. The commands
+    /// after the opening are numbered from 1.
+    ///
+    /// ```
+    /// let mut stream = shelf::StreamBuilder::open(60, 4, 6);
+    /// let feature = stream.count().shelve(35).commands(); // its number, 2
+    /// stream.shelve(22).withdraw(feature as u16);
+    /// assert!(stream.bytes().ends_with(&[4, 0, 2]));
+    /// ```
+    pub fn withdraw(&mut self, number: u16) -> &mut Self {
+        self.bytes.push(WITHDRAW);
+        self.bytes.extend(number.to_be_bytes());
+        self.commands += 1;
+        self
+    }
+
+    /// The number of commands after the opening, which is that of the last one.
     pub fn commands(&self) -> usize {
         self.commands
     }
@@ -121,8 +138,16 @@ pub enum Answer {
         /// The bin's number, from 1.
         bin: u16,
         /// The units left free on the bin just after the item. Until another
-        /// is answered this bin, an item that is permitted there fits exactly
-        /// if its size is at most this.
+        /// command is answered this bin, an item that is permitted there fits
+        /// exactly if its size is at most this.
+        free: u32,
+    },
+    /// The item was taken out of this bin.
+    Withdrawn {
+        /// The number of the bin that it left, as the command that shelved it
+        /// was answered.
+        bin: u16,
+        /// The units free on the bin just after that.
         free: u32,
     },
     /// So many bins are opened.
@@ -130,8 +155,8 @@ pub enum Answer {
         /// The number of bins.
         opened: u16,
     },
-    /// The item was refused, and left everything as it was.
-    Refused(ItemRefusal),
+    /// The command was refused, and left everything as it was.
+    Refused(CommandRefusal),
 }
 
 impl Answer {
@@ -139,28 +164,41 @@ impl Answer {
     /// it. `None` if the library answers it by no such words.
     ///
     /// ```
-    /// use shelf::{Answer, Command, ItemRefusal};
+    /// use shelf::{Answer, Command, CommandRefusal};
     ///
     /// let shelve = Command::Shelve { size: 35 };
     /// let placed = Answer::Placed { bin: 7, free: 25 };
     /// assert_eq!(Answer::to(shelve, 7, 25), Some(placed));
-    /// let refused = Answer::Refused(ItemRefusal::StockSpent);
+    /// let refused = Answer::Refused(CommandRefusal::StockSpent);
     /// assert_eq!(Answer::to(shelve, 32_768 + 10, 0), Some(refused));
     /// let counted = Answer::Counted { opened: 7 };
     /// assert_eq!(Answer::to(Command::Count, 7, 0), Some(counted));
+    /// let withdraw = Command::Withdraw { number: 3 };
+    /// let withdrawn = Answer::Withdrawn { bin: 7, free: 60 };
+    /// assert_eq!(Answer::to(withdraw, 7, 60), Some(withdrawn));
     ///
     /// assert_eq!(Answer::to(shelve, 0, 60), None);
     /// assert_eq!(Answer::to(Command::Count, 7, 25), None);
+    /// assert_eq!(Answer::to(withdraw, 32_768 + 10, 0), None);
     /// ```
     pub fn to(command: Command, word: u16, free: u32) -> Option<Self> {
         let answer = match command {
             Command::Count => Self::Counted { opened: word },
-            Command::Shelve { .. } if word & REFUSED == 0 => {
-                return (word != 0).then_some(Self::Placed { bin: word, free });
+            _ if word & REFUSED != 0 => {
+                let number = word & !REFUSED;
+                let why = CommandRefusal::from_number(number.into())?;
+                let withdraws = matches!(command, Command::Withdraw { .. });
+                if withdraws != (why == CommandRefusal::NotShelved) {
+                    return None;
+                }
+                Self::Refused(why)
             }
             Command::Shelve { .. } => {
-                let number = word & !REFUSED;
-                Self::Refused(ItemRefusal::from_number(number.into())?)
+                return (word != 0).then_some(Self::Placed { bin: word, free });
+            }
+            // The units that the item had are free at least.
+            Command::Withdraw { .. } => {
+                return (word != 0 && free != 0).then_some(Self::Withdrawn { bin: word, free });
             }
         };
         (free == 0).then_some(answer)
@@ -177,6 +215,11 @@ pub enum Command {
     },
     /// Ask how many bins are opened.
     Count,
+    /// Take out an item.
+    Withdraw {
+        /// The number of the command that shelved it.
+        number: u16,
+    },
 }
 
 /// The commands after the opening, each with the offset of its byte. They end
@@ -186,9 +229,13 @@ pub enum Command {
 /// use shelf::{Command, StreamBuilder};
 ///
 /// let mut stream = StreamBuilder::open(60, 4, 6);
-/// stream.shelve(35).count();
+/// stream.shelve(35).count().withdraw(1);
 /// let commands: Vec<_> = shelf::commands(stream.bytes()).collect();
-/// assert_eq!(commands, [(8, Command::Shelve { size: 35 }), (13, Command::Count)]);
+/// assert_eq!(commands, [
+///     (8, Command::Shelve { size: 35 }),
+///     (13, Command::Count),
+///     (14, Command::Withdraw { number: 1 }),
+/// ]);
 /// ```
 pub fn commands(stream: &[u8]) -> Commands<'_> {
     Commands {
@@ -214,6 +261,10 @@ impl Iterator for Commands<'_> {
                 (Command::Shelve { size }, rest)
             }
             [COUNT, ref rest @ ..] => (Command::Count, rest),
+            [WITHDRAW, a, b, ref rest @ ..] => {
+                let number = u16::from_be_bytes([a, b]);
+                (Command::Withdraw { number }, rest)
+            }
             _ => return None,
         };
         let offset = self.offset;
@@ -233,7 +284,7 @@ impl Iterator for Commands<'_> {
 /// use shelf::{Answer, Command, StreamBuilder};
 ///
 /// let mut stream = StreamBuilder::open(60, 4, 6);
-/// stream.shelve(35).count();
+/// stream.shelve(35).count().withdraw(1);
 /// let (mut words, mut free) = stream.rows();
 /// shelf::shelve(stream.bytes(), &mut words, &mut free).expect("a well-formed stream");
 ///
@@ -241,6 +292,8 @@ impl Iterator for Commands<'_> {
 /// let placed = (Command::Shelve { size: 35 }, Answer::Placed { bin: 1, free: 25 });
 /// assert_eq!(answers.next(), Some(placed));
 /// assert_eq!(answers.next(), Some((Command::Count, Answer::Counted { opened: 1 })));
+/// let withdrawn = (Command::Withdraw { number: 1 }, Answer::Withdrawn { bin: 1, free: 60 });
+/// assert_eq!(answers.next(), Some(withdrawn));
 /// assert_eq!(answers.next(), None);
 /// ```
 pub fn answers<'a>(stream: &'a [u8], words: &'a [u16], free: &'a [u32]) -> Answers<'a> {
@@ -264,5 +317,53 @@ impl Iterator for Answers<'_> {
         let (_offset, command) = self.commands.next()?;
         let (&word, &free) = self.words.next()?;
         Some((command, Answer::to(command, word, free)?))
+    }
+}
+
+#[cfg(test)]
+mod tests {
+    use super::*;
+
+    /// The words that may answer a command, and what they say.
+    fn read(command: Command, words: &[(u16, u32)]) -> Vec<Option<Answer>> {
+        let read = |&(word, free): &(u16, u32)| Answer::to(command, word, free);
+        words.iter().map(read).collect()
+    }
+
+    #[test]
+    fn each_command_has_its_own_refusals() {
+        let words = [8, 9, 10, 17, 11, 7].map(|number| (REFUSED | number, 0));
+        let refused = |why| Some(Answer::Refused(why));
+        use CommandRefusal::{NotShelved, SizeAboveCapacity, SizeZero, StockSpent};
+        let of_item = [SizeZero, SizeAboveCapacity, StockSpent].map(refused);
+        let shelve = Command::Shelve { size: 1 };
+        assert_eq!(read(shelve, &words), [&of_item[..], &[None; 3]].concat());
+        let of_withdrawal = [None, None, None, refused(NotShelved), None, None];
+        let withdraw = Command::Withdraw { number: 1 };
+        assert_eq!(read(withdraw, &words), of_withdrawal);
+        let beside = words.map(|(word, _)| (word, 1));
+        assert_eq!(read(shelve, &beside), [None; 6]);
+        assert_eq!(read(withdraw, &beside), [None; 6]);
+    }
+
+    #[test]
+    fn a_withdrawal_leaves_units_free() {
+        let withdraw = Command::Withdraw { number: 9 };
+        let words = [(3, 1), (3, 0), (0, 1)];
+        let withdrawn = Answer::Withdrawn { bin: 3, free: 1 };
+        assert_eq!(read(withdraw, &words), [Some(withdrawn), None, None]);
+    }
+
+    #[test]
+    fn commands_end_at_one_cut_short() {
+        let mut stream = StreamBuilder::open(60, 4, 6);
+        stream.withdraw(0x1234).count();
+        let bytes = stream.bytes();
+        let withdraw = (8, Command::Withdraw { number: 0x1234 });
+        let read = |len: usize| commands(&bytes[..len]).collect::<Vec<_>>();
+        assert_eq!(read(12), [withdraw, (11, Command::Count)]);
+        assert_eq!(read(11), [withdraw]);
+        assert_eq!(read(10), []);
+        assert_eq!(read(9), []);
     }
 }

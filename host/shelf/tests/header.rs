@@ -6,7 +6,7 @@ use std::env;
 use std::fs;
 use std::path::PathBuf;
 
-use shelf::{ItemRefusal, PlanFault, StreamFault};
+use shelf::{CommandRefusal, PlanFault, StreamFault};
 
 /// The header, from the folder `SHELF_INCLUDE_DIR` if that is set.
 fn header() -> String {
@@ -62,13 +62,13 @@ fn the_refusals_are_the_same() {
     for (name, number) in numbered {
         let ours = [
             StreamFault::from_number(number).map(|fault| fault.to_string()),
-            ItemRefusal::from_number(number).map(|why| why.to_string()),
+            CommandRefusal::from_number(number).map(|why| why.to_string()),
             PlanFault::from_number(number).map(|fault| fault.to_string()),
         ];
         let ours: Vec<String> = ours.into_iter().flatten().collect();
         assert_eq!(ours, [words[name]], "{name}");
         numbers.push(number);
     }
-    assert_eq!(numbers, (1..=16).collect::<Vec<u32>>());
+    assert_eq!(numbers, (1..=17).collect::<Vec<u32>>());
     assert_eq!(words.len(), numbers.len());
 }
