@@ -1,6 +1,7 @@
 //! The specification's own cases by name, their answers written out from the
 //! paper. Those it marks ● are proved elsewhere and tried here as well.
 
+use crate::checks::CHECKS;
 use crate::compare::{by_library, by_paper, plan_by_library, verdict, Outcome};
 use crate::families::{self, Family};
 use crate::figures;
@@ -12,8 +13,9 @@ use crate::sheet_cases;
 use crate::streams::StreamTrial;
 use crate::walk::Program;
 use crate::walk_cases;
-use crate::wire::Command::{self, Count, Shelve};
+use crate::wire::Command::{self, Count, Shelve, Withdraw};
 use crate::wire::{opening, refuse, refused_word as r, Opening, Refusal, Stream, MOST_COMMANDS};
+use crate::withdrawal_cases;
 use crate::written;
 
 /// The opening of the streams that are refused for another fault.
@@ -46,15 +48,17 @@ impl Cases {
         });
     }
 
-    /// What a stream comes to by the library, whose free units are held against
-    /// its own answers and sheet besides.
+    /// What a stream comes to by the library, whose answers are held against
+    /// themselves besides.
     pub fn library(&mut self, name: &str, trial: &StreamTrial, expected: &Outcome) {
         let library = by_library(trial);
         self.outcome(name, "library", &library, expected);
-        let fault = figures::fault(trial, &library);
-        self.check(name, fault.is_none(), || {
-            format!("library: {}", fault.unwrap_or_default())
-        });
+        for check in CHECKS {
+            let fault = check(trial, &library);
+            self.check(name, fault.is_none(), || {
+                format!("library: {}", fault.unwrap_or_default())
+            });
+        }
     }
 
     pub fn both(&mut self, name: &str, trial: &StreamTrial, expected: &Outcome) {
@@ -178,6 +182,7 @@ pub fn run(program: Option<&Program>) -> Result<Cases, String> {
     free_cases::run(&mut cases);
     sheet_cases::run(&mut cases);
     walk_cases::run(&mut cases, program)?;
+    withdrawal_cases::run(&mut cases);
     Ok(cases)
 }
 
@@ -303,7 +308,7 @@ fn misleading_readings(cases: &mut Cases) {
 /// Refusals 1 to 4.
 fn faulty_commands(cases: &mut Cases) {
     let (open, zeros) = (OPEN.bytes(), opening(0, 0, 0).bytes());
-    let size = Shelve(22).bytes();
+    let (size, out) = (Shelve(22).bytes(), Withdraw(1).bytes());
     let counted = sent(OPEN, &[Count]);
     let shelved = sent(OPEN, &[Shelve(22)]);
 
@@ -312,11 +317,15 @@ fn faulty_commands(cases: &mut Cases) {
     let name = "refusal 1: starts with an unknown byte";
     cases.refused(name, 1, &[], &[0xFF], 0);
     cases.refused("refusal 2: 00", 2, &open, &[0x00], 4);
-    cases.refused("refusal 2: 04", 2, &shelved, &[0x04], 4);
+    cases.refused("refusal 2: 05", 2, &shelved, &[0x05], 4);
     cases.refused("refusal 2: FF", 2, &counted, &[0xFF], 4);
     for cut in 1..size.len() {
         let name = "refusal 3: a size cut short";
         cases.refused(name, 3, &counted, &size[..cut], 4);
+    }
+    for cut in 1..out.len() {
+        let name = "refusal 3: a withdrawal cut short";
+        cases.refused(name, 3, &shelved, &out[..cut], 4);
     }
     for cut in 1..zeros.len() {
         let name = "refusal 3 before 5: an opening cut short";
@@ -367,7 +376,10 @@ fn numbers_of_commands(cases: &mut Cases) {
     cases.accepted("4,096 commands", &full, &[0; 4096], (0, 0));
 
     let (open, size, count) = (OPEN.bytes(), Shelve(22).bytes(), Count.bytes());
-    for last in [&count, &[0xFF][..], &open[..1], &size[..1], &size, &open] {
+    let out = Withdraw(1).bytes();
+    let whole = [&count, &size, &out, &open].map(|bytes| &bytes[..]);
+    let cut = [&[0xFF], &open[..1], &size[..1], &out[..1], &out[..2]];
+    for last in whole.into_iter().chain(cut) {
         let name = "refusal 6 whatever the 4,097th command";
         cases.refused(name, 6, &full, last, 4096);
     }

@@ -2,44 +2,58 @@
 //! and by the vault sheet.
 
 use std::collections::{BTreeMap, HashMap};
+use std::ops::RangeInclusive;
 
 use crate::compare::Outcome;
 use crate::streams::StreamTrial;
 use crate::wire::{answer, Command, Stream};
+use crate::written::Written;
+
+/// A figure for each bin, beside the bin's number.
+pub type Figures = Vec<(u16, u32)>;
 
 /// The free units beside these answer words: the capacity less all that was
-/// answered the same bin up to then, and 0 where no item is placed. `None` if a
-/// bin is given more than it holds.
+/// answered the same bin up to then and has not left it, and 0 where no item
+/// came or went. `None` if a bin is given more than it holds, or gives more.
 pub fn by_subtraction(stream: &Stream, words: &[u16]) -> Option<Vec<u32>> {
-    let mut loads: HashMap<u16, u64> = HashMap::new();
+    let capacity = i64::from(stream.opening.capacity);
+    let mut loads: HashMap<u16, i64> = HashMap::new();
     let answered = stream.commands.iter().zip(words);
-    let figures = answered.map(|(command, &word)| match (*command, answer(word)) {
-        (Command::Shelve(size), Ok(bin)) => {
-            let load = loads.entry(bin).or_default();
-            *load += u64::from(size);
-            u64::from(stream.opening.capacity).checked_sub(*load)
-        }
-        _ => Some(0),
+    let figures = answered.map(|(command, &word)| {
+        let (bin, change) = match (*command, answer(word)) {
+            (Command::Shelve(size), Ok(bin)) => (bin, i64::from(size)),
+            (Command::Withdraw(number), Ok(bin)) => (bin, -i64::from(stream.size_of(number)?)),
+            _ => return Some(0),
+        };
+        let load = loads.entry(bin).or_default();
+        *load += change;
+        (0..=capacity)
+            .contains(load)
+            .then_some((capacity - *load) as u32)
     });
-    figures.map(|free| Some(free? as u32)).collect()
+    figures.collect()
 }
 
-/// The last figure that was answered for each bin.
-fn last_figures(stream: &Stream, words: &[u16], free: &[u32]) -> BTreeMap<u16, u32> {
+/// The last figure that was answered for each bin, in rising number.
+fn last_figures(stream: &Stream, words: &[u16], free: &[u32]) -> Figures {
     let answered = stream.commands.iter().zip(words).zip(free);
-    let placed = answered.filter_map(|((command, &word), &free)| match command {
-        Command::Shelve(_) => Some((answer(word).ok()?, free)),
+    let moved = answered.filter_map(|((command, &word), &free)| match command {
+        Command::Shelve(_) | Command::Withdraw(_) => Some((answer(word).ok()?, free)),
         Command::Count => None,
     });
-    placed.collect()
+    let last: BTreeMap<u16, u32> = moved.collect();
+    last.into_iter().collect()
 }
 
-/// The free units of each bin on a sheet: columns 1 to 4, and 17 to 24.
-fn on_sheet(sheet: &str) -> Option<BTreeMap<u16, u32>> {
-    let lines = sheet.lines().filter(|line| !line.starts_with("PAGE"));
+/// What stands in these columns of each bin's line on a sheet, beside the
+/// number in columns 1 to 4. `None` if it is no sheet.
+pub fn on_sheet(sheet: &Written, columns: RangeInclusive<usize>) -> Option<Figures> {
+    let (first, last) = columns.into_inner();
+    let lines = sheet.as_text()?.lines();
+    let lines = lines.filter(|line| !line.starts_with("PAGE"));
     let figures = lines.map(|line| {
-        let (number, free) = (line.get(..4)?, line.get(16..24)?);
-        Some((number.trim().parse().ok()?, free.trim().parse().ok()?))
+        let (number, figure) = (line.get(..4)?, line.get(first - 1..last)?);
+        Some((number.trim().parse().ok()?, figure.trim().parse().ok()?))
     });
     figures.collect()
 }
@@ -50,13 +64,12 @@ pub fn fault(trial: &StreamTrial, outcome: &Outcome) -> Option<&'static str> {
     let stream = Stream::read(&trial.stream).ok()?;
     let (words, free) = (outcome.rows.answers(), outcome.rows.free());
     let Some(figures) = by_subtraction(&stream, words) else {
-        return Some("a cartridge is given more than it holds");
+        return Some("a cartridge is given more than it holds, or gives more");
     };
     if free.get(..stream.commands.len()) != Some(&figures) {
         return Some("free units and load do not make up the capacity");
     }
-    let sheet = outcome.sheet.as_text().and_then(on_sheet);
-    if sheet != Some(last_figures(&stream, words, free)) {
+    if on_sheet(&outcome.sheet, 17..=24) != Some(last_figures(&stream, words, free)) {
         return Some("the last free units of the cartridges are not those of the sheet");
     }
     None
@@ -68,7 +81,7 @@ mod tests {
     use crate::cases::{case, sample};
     use crate::paper::Totals;
     use crate::rows::Lent;
-    use crate::wire::opening;
+    use crate::wire::{opening, refused_word as r};
 
     /// The fault of a stream of which the library says this.
     fn found(stream: Vec<u8>, words: &[u16], free: &[u32]) -> Option<&'static str> {
@@ -100,9 +113,58 @@ mod tests {
     }
 
     #[test]
+    fn what_is_no_sheet_is_found() {
+        let stream = Stream::of_sizes(opening(60, 4, 6), &[35]);
+        let trial = case(stream.bytes(), Lent::both(1));
+        let totals = Totals {
+            items: 1,
+            opened: 1,
+        };
+        let mut outcome = Outcome::accepted(&trial, totals, &[1], &[25]);
+        assert_eq!(fault(&trial, &outcome), None);
+        for text in ["", "X 1 0\n", "é"] {
+            outcome.sheet = Written::text(trial.fill, text);
+            assert!(fault(&trial, &outcome).is_some(), "{text}");
+        }
+        outcome.sheet = Written::by(trial.fill, |_| None);
+        assert!(fault(&trial, &outcome).is_some());
+    }
+
+    #[test]
     fn an_overfull_bin_has_no_figure() {
         let stream = Stream::of_sizes(opening(60, 4, 6), &[35, 26]);
         assert_eq!(by_subtraction(&stream, &[1, 2]), Some(vec![25, 34]));
         assert_eq!(by_subtraction(&stream, &[1, 1]), None);
+    }
+    #[test]
+    fn what_leaves_is_free_again() {
+        let mut stream = Stream::of_sizes(opening(60, 4, 6), &[35, 22, 0]);
+        let named = [1, 2, 4, 0, 9].map(Command::Withdraw);
+        stream.commands.extend(named);
+        let figures = |words: [u16; 5]| {
+            let words = [&[1, 2, r(8)], &words[..]].concat();
+            by_subtraction(&stream, &words)
+        };
+        let refused = [r(17); 5];
+        let none_out = vec![25, 38, 0, 0, 0, 0, 0, 0];
+        assert_eq!(figures(refused), Some(none_out));
+        let two_out = vec![25, 38, 0, 60, 60, 0, 0, 0];
+        assert_eq!(figures([1, 2, r(17), r(17), r(17)]), Some(two_out));
+        // The 35 out of a bin with 22, and what is no item.
+        for (place, bin) in [(0, 2), (2, 1), (3, 1), (4, 1)] {
+            let mut words = refused;
+            words[place] = bin;
+            assert_eq!(figures(words), None, "{place}");
+        }
+    }
+
+    #[test]
+    fn a_wrong_figure_beside_a_withdrawal_is_found() {
+        let mut stream = Stream::of_sizes(opening(60, 4, 6), &[35, 22]);
+        stream.commands.push(Command::Withdraw(1));
+        assert_eq!(found(stream.bytes(), &[1, 2, 1], &[25, 38, 60]), None);
+        for wrong in [0, 25, 59] {
+            assert!(found(stream.bytes(), &[1, 2, 1], &[25, 38, wrong]).is_some());
+        }
     }
 }

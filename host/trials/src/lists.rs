@@ -35,7 +35,7 @@ pub fn random_opening(rng: &mut Rng) -> Opening {
 
 /// How the sizes of one stream are chosen.
 #[derive(Clone, Copy)]
-enum Sizes {
+pub enum Sizes {
     Uniform,
     /// At and beside the fractions where classes and fits change.
     Edges,
@@ -48,12 +48,12 @@ enum Sizes {
     Bad,
 }
 
-fn random_sizes(rng: &mut Rng) -> Sizes {
+pub fn random_sizes(rng: &mut Rng) -> Sizes {
     use Sizes::*;
     rng.pick(&[Uniform, Edges, Edges, Classes, Classes, Parts, Small])
 }
 
-fn random_size(rng: &mut Rng, sizes: Sizes, capacity: u32) -> u32 {
+pub fn random_size(rng: &mut Rng, sizes: Sizes, capacity: u32) -> u32 {
     let c = u64::from(capacity);
     let size = match sizes {
         Sizes::Uniform => rng.between(1, c),
@@ -90,7 +90,7 @@ fn random_size(rng: &mut Rng, sizes: Sizes, capacity: u32) -> u32 {
     size as u32
 }
 
-fn bad_size(rng: &mut Rng, capacity: u32) -> u32 {
+pub fn bad_size(rng: &mut Rng, capacity: u32) -> u32 {
     match rng.between(0, 5) {
         0..=1 => 0,
         2..=3 => capacity + 1,

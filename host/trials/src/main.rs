@@ -1,20 +1,23 @@
 //! Compares the library with [`paper`] and [`sheet`], a simple version written
 //! from the specification alone, over random streams and plans; and holds its
-//! answers against themselves: the figures of [`figures`], and the fewest bins.
-//! How many places a count reads is no part of the interface, and is compared
-//! with what a program of its own prints ([`walk`]).
+//! answers against themselves: [`checks`], and the fewest bins. How many places
+//! a count reads is no part of the interface, and is compared with what a
+//! program of its own prints ([`walk`]).
 //!
-//! `trials [--streams N] [--plans N] [--seed S] [--count-walk PROGRAM]`. The
-//! first difference is made small and printed with both answers, and the exit
-//! status is 1.
+//! `trials [--streams N] [--withdrawals N] [--plans N] [--seed S] [--count-walk
+//! PROGRAM]`. The first difference is made small and printed with both answers,
+//! and the exit status is 1.
 
 mod cases;
+mod checks;
 mod compare;
 mod families;
 mod fewest;
 mod figures;
 mod free_cases;
+mod left_out;
 mod lists;
+mod met;
 mod paper;
 mod plans;
 mod rng;
@@ -22,26 +25,32 @@ mod rows;
 mod sheet;
 mod sheet_cases;
 mod smaller;
+mod still_shelved;
 mod streams;
 mod walk;
 mod walk_cases;
 mod wire;
+mod withdrawal_cases;
+mod withdrawals;
 mod written;
 
 use std::process::ExitCode;
 use std::time::{Instant, SystemTime, UNIX_EPOCH};
 
+use checks::CHECKS;
 use compare::{by_library, by_paper, plan_by_library, Outcome};
 use fewest::{first_fit_decreasing, Fewest};
+use met::Met;
 use paper::Shelved;
 use plans::PlanTrial;
 use rng::Rng;
 use smaller::{show_plan, show_stream, show_walk};
 use streams::{StreamTrial, COUNTS};
 use walk::{Found, Program};
-use wire::Stream;
+use wire::{answer, Command, Stream};
 
-const USAGE: &str = "usage: trials [--streams N] [--plans N] [--seed S] [--count-walk PROGRAM]";
+const USAGE: &str = "usage: trials [--streams N] [--withdrawals N] [--plans N] [--seed S] \
+                     [--count-walk PROGRAM]";
 
 /// The longest list whose fewest bins are searched for.
 const SHORT: usize = 13;
@@ -52,6 +61,7 @@ const WALKED: u64 = 20;
 
 struct Settings {
     streams: u64,
+    withdrawals: u64,
     plans: u64,
     seed: u64,
     count_walk: Option<Program>,
@@ -61,6 +71,12 @@ impl Settings {
     /// The stream trial of this number.
     fn stream(&self, index: u64) -> StreamTrial {
         streams::random(&mut Rng::of_trial(self.seed, 2 * index))
+    }
+
+    /// The withdrawal trial of this number: counted down, so that its generator
+    /// is no other trial's.
+    fn withdrawal(&self, index: u64) -> StreamTrial {
+        withdrawals::random(&mut Rng::of_trial(self.seed, !index))
     }
 
     /// The plan trial of this number.
@@ -73,6 +89,7 @@ fn settings() -> Option<Settings> {
     let now = SystemTime::now().duration_since(UNIX_EPOCH).ok()?;
     let mut settings = Settings {
         streams: 10_000,
+        withdrawals: 10_000,
         plans: 10_000,
         seed: now.as_nanos() as u64 % 1_000_000_000,
         count_walk: None,
@@ -83,6 +100,7 @@ fn settings() -> Option<Settings> {
         let number = || value.replace(',', "").parse().ok();
         match arg.as_str() {
             "--streams" => settings.streams = number()?,
+            "--withdrawals" => settings.withdrawals = number()?,
             "--plans" => settings.plans = number()?,
             "--seed" => settings.seed = number()?,
             "--count-walk" => settings.count_walk = Some(Program(value.into())),
@@ -136,6 +154,18 @@ fn run(settings: &Settings) -> Result<(), Failure> {
         try_stream(settings.stream(index), &mut tally).map_err(difference)?;
     }
     println!("{tally}");
+
+    let mut tally = Tally::default();
+    let mut met = Met::default();
+    for index in 0..settings.withdrawals {
+        let trial = settings.withdrawal(index);
+        if let Ok(stream) = Stream::read(&trial.stream) {
+            met.add(&stream);
+        }
+        let difference = |what| Failure::Difference(format!("withdrawal trial {index}, {what}"));
+        try_stream(trial, &mut tally).map_err(difference)?;
+    }
+    println!("with withdrawals, {tally}\n{met}");
 
     match program {
         Some(program) => {
@@ -196,9 +226,11 @@ fn try_stream(trial: StreamTrial, tally: &mut Tally) -> Result<(), String> {
         return Err(format!("{kind}\n{}", show_stream(trial, differs)));
     }
     tally.accepted += u64::from(outcome.totals().is_some());
-    if let Some(fault) = figures::fault(&trial, &outcome) {
-        let faulty = |trial: &StreamTrial| figures::fault(trial, &by_library(trial)).is_some();
-        return Err(format!("{kind}: {fault}\n{}", show_stream(trial, faulty)));
+    for check in CHECKS {
+        if let Some(fault) = check(&trial, &outcome) {
+            let faulty = |trial: &StreamTrial| check(trial, &by_library(trial)).is_some();
+            return Err(format!("{kind}: {fault}\n{}", show_stream(trial, faulty)));
+        }
     }
     if let Ok(shelved) = paper::shelve(&trial.stream) {
         if let Some(fault) = walk::fault(&shelved) {
@@ -224,19 +256,29 @@ fn try_stream(trial: StreamTrial, tally: &mut Tally) -> Result<(), String> {
     }
 }
 
-/// The largest `3 * opened - 5 * k` of an accepted stream, by the library's own
-/// answers: after every command with the fewest bins k if the list is short,
-/// else at the end with the k of first-fit decreasing.
+/// The largest `3 * opened - 5 * k` of an accepted stream up to its first
+/// accepted withdrawal, by the library's own answers: after every command with
+/// the fewest bins k if the list is short, else at the end with the k of
+/// first-fit decreasing.
 fn worst_excess(trial: &StreamTrial, outcome: &Outcome, tally: &mut Tally) -> Option<i64> {
-    let totals = outcome.totals()?;
-    let stream = Stream::read(&trial.stream).ok()?;
+    outcome.totals()?;
+    let mut stream = Stream::read(&trial.stream).ok()?;
+    let words = outcome.rows.answers();
+    let mut answered = stream.commands.iter().zip(words);
+    let withdrawn = |(command, &word): (&Command, &u16)| {
+        matches!(command, Command::Withdraw(_)) && answer(word).is_ok()
+    };
+    if let Some(first) = answered.position(withdrawn) {
+        stream.commands.truncate(first);
+    }
     let capacity = stream.opening.capacity;
-    let placed = stream.placed(outcome.rows.answers());
+    let placed = stream.placed(words);
     let excess = |opened: usize, k: usize| 3 * opened as i64 - 5 * k as i64;
-    if totals.items > SHORT {
+    if placed.len() > SHORT {
         let items: Vec<u32> = placed.iter().map(|&(size, _)| size).collect();
+        let opened = placed.iter().map(|&(_, bin)| bin as usize).max()?;
         let (_, k) = first_fit_decreasing(&items, capacity);
-        return Some(excess(totals.opened, k as usize));
+        return Some(excess(opened, k as usize));
     }
     let mut fewest = Fewest::new(capacity.into());
     let mut opened = 0;
@@ -254,16 +296,17 @@ fn worst_excess(trial: &StreamTrial, outcome: &Outcome, tally: &mut Tally) -> Op
 /// Compares the walk after each stream that is chosen for it with what the
 /// program prints; says how many there were.
 fn try_walks(settings: &Settings, program: &Program) -> Result<String, Failure> {
+    let streams = (0..settings.streams).map(|index| (index, settings.stream(index)));
+    let withdrawals = (0..settings.withdrawals).map(|index| (index, settings.withdrawal(index)));
     let mut compared = 0;
     let mut found = Found::default();
-    for index in 0..settings.streams {
-        let trial = settings.stream(index);
+    for (index, trial) in streams.chain(withdrawals) {
         if trial.kind != COUNTS && index % WALKED != 0 {
             continue;
         }
         if program.differs(&trial.stream).map_err(Failure::Program)? {
             let (kind, shown) = (trial.kind, show_walk(trial, program));
-            let difference = format!("walk after stream trial {index}, {kind}\n{shown}");
+            let difference = format!("walk after trial {index}, {kind}\n{shown}");
             return Err(Failure::Difference(difference));
         }
         compared += 1;
@@ -283,4 +326,52 @@ fn try_plan(trial: PlanTrial) -> Result<bool, String> {
         return Err(format!("{kind}\n{}", show_plan(trial, differs)));
     }
     Ok(verdict == Some(Ok(())))
+}
+
+#[cfg(test)]
+mod tests {
+    use super::*;
+    use crate::cases::{case, sent};
+    use crate::rows::Lent;
+    use crate::wire::opening;
+    use crate::wire::Command::{Shelve, Withdraw};
+
+    /// The list that does worst, five for two, and six that fill as many; with
+    /// one of them taken out, or not, in between.
+    #[test]
+    fn the_fewest_are_compared_up_to_the_first_withdrawal() {
+        let worst = |named: u16| {
+            let mut commands = [6, 5, 6, 4, 1].map(Shelve).to_vec();
+            commands.push(Withdraw(named));
+            commands.extend([Shelve(11); 6]);
+            let trial = case(sent(opening(11, 512, 6), &commands), Lent::both(12));
+            let mut tally = Tally::default();
+            let worst = worst_excess(&trial, &by_paper(&trial), &mut tally);
+            (worst, tally.prefixes)
+        };
+        assert_eq!(worst(1), (Some(5), 5));
+        assert_eq!(worst(6), (Some(5), 11));
+    }
+
+    /// A shelf that opens a bin for every item is found, but not behind a
+    /// withdrawal.
+    #[test]
+    fn too_many_opened_are_found_before_a_withdrawal_alone() {
+        let worst = |withdrawn: usize| {
+            let mut commands = vec![Shelve(1); 12];
+            commands[withdrawn] = Withdraw(1);
+            let trial = case(sent(opening(60, 512, 6), &commands), Lent::both(12));
+            let totals = paper::Totals {
+                items: 10,
+                opened: 11,
+            };
+            let mut words: Vec<u16> = (1..=12).collect();
+            words[withdrawn] = 1;
+            let outcome = Outcome::accepted(&trial, totals, &words, &[0; 12]);
+            worst_excess(&trial, &outcome, &mut Tally::default())
+        };
+        assert_eq!(worst(11), Some(3 * 11 - 5));
+        assert_eq!(worst(7), Some(3 * 7 - 5));
+        assert_eq!(worst(1), Some(0));
+    }
 }

@@ -34,14 +34,20 @@ pub fn size_class(size: u64, capacity: u64) -> SizeClass {
     }
 }
 
+pub struct Item {
+    /// The number of the command that shelved it.
+    pub number: usize,
+    pub size: u64,
+}
+
 pub struct Bin {
     pub class: u32,
-    pub items: Vec<u64>,
+    pub items: Vec<Item>,
 }
 
 impl Bin {
     pub fn load(&self) -> u64 {
-        self.items.iter().sum()
+        self.items.iter().map(|item| item.size).sum()
     }
 }
 
@@ -60,22 +66,21 @@ pub struct Packing {
     /// The walk of each count, beside the number of bins at that time.
     pub counts: Vec<(Walk, usize)>,
     b2_accepted: usize,
-    accepted: usize,
 }
 
 impl Packing {
-    fn new(opening: Opening) -> Self {
+    pub fn new(opening: Opening) -> Self {
         Self {
             opening,
             bins: Vec::new(),
             counts: Vec::new(),
             b2_accepted: 0,
-            accepted: 0,
         }
     }
 
-    /// Places one item: the number of its bin, or the refusal's number.
-    fn place(&mut self, size: u64) -> Result<usize, u16> {
+    /// Places the item of the command with this number: the number of its bin,
+    /// or the refusal's number.
+    fn place(&mut self, number: usize, size: u64) -> Result<usize, u16> {
         let capacity = self.opening.capacity.into();
         if size == 0 {
             return Err(8);
@@ -94,8 +99,8 @@ impl Packing {
         };
         let permitted = |bin: &Bin| {
             let holds_an_a = || {
-                let mut classes = bin.items.iter().map(|&item| size_class(item, capacity));
-                classes.any(|class| class == SizeClass::A)
+                let mut items = bin.items.iter();
+                items.any(|item| size_class(item.size, capacity) == SizeClass::A)
             };
             bin.class == class && bin.load() + size <= capacity && (!beside_an_a || holds_an_a())
         };
@@ -108,12 +113,23 @@ impl Packing {
                 self.bins.len() - 1
             }
         };
-        self.bins[place].items.push(size);
-        self.accepted += 1;
+        self.bins[place].items.push(Item { number, size });
         if is_b2 {
             self.b2_accepted += 1;
         }
         Ok(place + 1)
+    }
+
+    /// Takes out the item of the command with this number: the number of the
+    /// bin that it leaves, or the refusal's number if it is on none.
+    fn take_out(&mut self, number: usize) -> Result<usize, u16> {
+        for (bin, Bin { items, .. }) in (1..).zip(&mut self.bins) {
+            if let Some(place) = items.iter().position(|item| item.number == number) {
+                items.remove(place);
+                return Ok(bin);
+            }
+        }
+        Err(17)
     }
 
     /// The units that are left free on a bin.
@@ -138,18 +154,20 @@ impl Packing {
         walk
     }
 
-    /// Does what a command asks; its word in each row.
-    fn answer(&mut self, command: Command) -> (u16, u32) {
-        match command {
+    /// Does what the command of this number asks; its word in each row.
+    pub fn answer(&mut self, number: usize, command: Command) -> (u16, u32) {
+        let bin = match command {
             Command::Count => {
                 let walk = self.walk();
                 self.counts.push((walk, self.bins.len()));
-                (walk.figure as u16, 0)
+                return (walk.figure as u16, 0);
             }
-            Command::Shelve(size) => match self.place(size.into()) {
-                Ok(bin) => (bin as u16, self.free_units(&self.bins[bin - 1]) as u32),
-                Err(number) => (refused_word(number), 0),
-            },
+            Command::Shelve(size) => self.place(number, size.into()),
+            Command::Withdraw(named) => self.take_out(named.into()),
+        };
+        match bin {
+            Ok(bin) => (bin as u16, self.free_units(&self.bins[bin - 1]) as u32),
+            Err(refusal) => (refused_word(refusal), 0),
         }
     }
 }
@@ -166,7 +184,8 @@ pub struct Shelved {
 pub fn shelve(stream: &[u8]) -> Result<Shelved, Refusal> {
     let Stream { opening, commands } = Stream::read(stream)?;
     let mut packing = Packing::new(opening);
-    let answers = commands.into_iter().map(|command| packing.answer(command));
+    let numbered = (1..).zip(commands);
+    let answers = numbered.map(|(number, command)| packing.answer(number, command));
     Ok(Shelved {
         answers: answers.collect(),
         walk: packing.walk(),
@@ -193,7 +212,7 @@ pub fn answer(
         (words[place], free[place]) = answer;
     }
     Ok(Totals {
-        items: packing.accepted,
+        items: packing.bins.iter().map(|bin| bin.items.len()).sum(),
         opened: packing.bins.len(),
     })
 }

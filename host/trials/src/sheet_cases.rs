@@ -12,7 +12,7 @@ const OPEN: Opening = opening(60, 512, 6);
 impl Cases {
     /// A stream whose sheet is this text on both sides, to the last lent byte
     /// and around them.
-    fn sheet(&mut self, name: &str, stream: Vec<u8>, text: &str) {
+    pub fn sheet(&mut self, name: &str, stream: Vec<u8>, text: &str) {
         let trial = case(stream, Lent::both(0));
         let expected = Written::text(trial.fill, text);
         for (side, outcome) in [("paper", by_paper(&trial)), ("library", by_library(&trial))] {
@@ -115,7 +115,8 @@ fn refused_streams(cases: &mut Cases) {
     let shelved = sent(OPEN, &[Shelve(60), Count]);
     let refused = [
         (vec![], "X 1 0\n"),
-        ([&shelved[..], &[0x04]].concat(), "X 2 14\n"),
+        ([&shelved[..], &[0x05]].concat(), "X 2 14\n"),
+        ([&shelved[..], &[0x04, 0x00]].concat(), "X 3 14\n"),
         (shelved[..12].to_vec(), "X 3 8\n"),
         ([&shelved[..], &shelved].concat(), "X 4 14\n"),
         (opening(60, 513, 6).bytes(), "X 5 0\n"),

@@ -1,5 +1,6 @@
 //! A first difference made small, and shown with both answers.
 
+use std::ops::Range;
 use std::time::{Duration, Instant};
 
 use crate::compare::{by_library, by_paper, plan_by_library, verdict};
@@ -29,7 +30,7 @@ fn shrink<T>(
 }
 
 /// The blocks of a row to leave out, the largest first.
-fn blocks(len: usize) -> impl Iterator<Item = std::ops::Range<usize>> {
+fn blocks(len: usize) -> impl Iterator<Item = Range<usize>> {
     let sizes = std::iter::successors(Some(len), |&size| (size > 1).then_some(size / 2));
     sizes.flat_map(move |size| {
         let starts = (0..len).step_by(size.max(1));
@@ -58,6 +59,10 @@ fn lowered(part: Part) -> Vec<Part> {
             let commands = lower(size).map(Command::Shelve);
             commands.map(Part::Command).collect()
         }
+        Part::Command(Command::Withdraw(number)) => {
+            let commands = lower(number.into()).map(|n| Command::Withdraw(n as u16));
+            commands.map(Part::Command).collect()
+        }
         _ => Vec::new(),
     }
 }
@@ -75,6 +80,25 @@ fn scaled<'a>(parts: &[Part<'a>], by: u32) -> Option<Vec<Part<'a>>> {
         })
     });
     scaled.collect()
+}
+
+/// The parts without a block of them. Where the opening stands before it, a
+/// command's number is its place: names of commands behind the block then go on
+/// naming them, and those of commands in it name none.
+fn without<'a>(mut parts: Vec<Part<'a>>, block: Range<usize>) -> Vec<Part<'a>> {
+    let behind = block.end..parts.len();
+    for part in &mut parts {
+        if let Part::Command(Command::Withdraw(number)) = part {
+            let named = usize::from(*number);
+            if block.contains(&named) {
+                *number = 0;
+            } else if behind.contains(&named) {
+                *number -= block.len() as u16;
+            }
+        }
+    }
+    parts.drain(block);
+    parts
 }
 
 fn parts(trial: &StreamTrial) -> Vec<Part<'_>> {
@@ -96,8 +120,8 @@ fn smaller_streams(trial: &StreamTrial) -> Box<dyn Iterator<Item = StreamTrial> 
     };
     let len = parts(trial).len();
     let dropped = blocks(len).flat_map(move |block| {
-        let mut kept = parts(trial);
-        let gone = kept.drain(block).len();
+        let gone = block.len();
+        let kept = without(parts(trial), block);
         // Shorter rows keep their distance from the number of commands.
         let shorter = Lent {
             answers: trial.lent.answers.saturating_sub(gone),
@@ -219,4 +243,29 @@ fn commands_in_hex(trial: &StreamTrial) -> String {
 
 fn hex(bytes: &[u8]) -> String {
     bytes.iter().map(|byte| format!("{byte:02X}")).collect()
+}
+
+#[cfg(test)]
+mod tests {
+    use super::*;
+    use crate::cases::{case, sent};
+    use crate::wire::Command::{Count, Shelve, Withdraw};
+
+    #[test]
+    fn names_follow_their_commands() {
+        let named = [1, 2, 3, 4, 5, 9, 65_535].map(Withdraw);
+        let commands = [&[Shelve(9), Count, Shelve(8), Shelve(7)], &named[..]].concat();
+        let stream = sent(opening(60, 4, 6), &commands);
+        let trial = case(stream, Lent::both(0));
+        let left = without(parts(&trial), 2..4);
+        let left: Vec<Command> = left
+            .iter()
+            .filter_map(|part| match part {
+                Part::Command(command) => Some(*command),
+                _ => None,
+            })
+            .collect();
+        let named = [1, 0, 0, 2, 3, 7, 65_535].map(Withdraw);
+        assert_eq!(left, [&[Shelve(9), Shelve(7)], &named[..]].concat());
+    }
 }

@@ -35,6 +35,11 @@ pub fn random(rng: &mut Rng) -> StreamTrial {
         80..=84 => (COUNTS, counted(rng).pieces()),
         _ => ("damaged", damaged(rng)),
     };
+    lent(rng, kind, pieces)
+}
+
+/// The stream of these pieces, with rows of any lengths.
+pub fn lent(rng: &mut Rng, kind: &'static str, pieces: Vec<Vec<u8>>) -> StreamTrial {
     let after = pieces.len().saturating_sub(1);
     let mut lent = Lent::both(random_length(rng, after));
     if rng.chance(50) {
@@ -135,9 +140,11 @@ fn around_the_longest(rng: &mut Rng) -> Vec<u8> {
 /// What a faulty command looks like.
 fn odd_command(rng: &mut Rng) -> Vec<u8> {
     match rng.between(0, 5) {
-        0..=1 => vec![rng.pick(&[0, 4, 5, 6, 7, 0x11, 0x80, 255])],
+        0..=1 => vec![rng.pick(&[0, 5, 6, 7, 0x11, 0x80, 255])],
         2 => {
-            let bytes = Command::Shelve(rng.word() as u32).bytes();
+            let shelve = Command::Shelve(rng.word() as u32);
+            let withdraw = Command::Withdraw(rng.word() as u16);
+            let bytes = rng.pick(&[shelve, withdraw]).bytes();
             cut_short(rng, bytes)
         }
         3 => odd_opening(rng),
@@ -155,7 +162,7 @@ fn cut_short(rng: &mut Rng, mut bytes: Vec<u8>) -> Vec<u8> {
     bytes
 }
 
-fn damage(rng: &mut Rng, pieces: &mut Vec<Vec<u8>>) {
+pub fn damage(rng: &mut Rng, pieces: &mut Vec<Vec<u8>>) {
     for _ in 0..rng.between(1, 3) {
         match rng.between(0, 9) {
             0..=2 => {

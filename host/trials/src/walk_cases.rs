@@ -6,7 +6,7 @@ use crate::compare::{by_paper, Outcome};
 use crate::paper;
 use crate::rows::Lent;
 use crate::walk::{self, Program};
-use crate::wire::Command::{self, Count, Shelve};
+use crate::wire::Command::{self, Count, Shelve, Withdraw};
 use crate::wire::{opening, Opening, Stream, MOST_COMMANDS, MOST_PRINTED};
 
 const OPEN: Opening = opening(60, 512, 6);
@@ -126,6 +126,15 @@ impl Walks<'_> {
             let name = format!("stock {stock}, {opened} opened, {shelf}");
             let printed = format!("{opened} {places}\n");
             self.walked(&name, &sent(opening, &commands), &figures, &printed)?;
+            // Emptied cartridges are counted like any other.
+            let mut emptied = commands.clone();
+            let masters = (1..).zip(&commands).filter(|(_, sent)| **sent != Count);
+            emptied.extend(masters.map(|(number, _)| Withdraw(number)));
+            emptied.push(Count);
+            let figures_emptied = [&figures[..], &[opened]].concat();
+            let emptied = sent(opening, &emptied);
+            let name_emptied = format!("{name}, and all taken out");
+            self.walked(&name_emptied, &emptied, &figures_emptied, &printed)?;
             if opened == stock {
                 commands.extend([Shelve(60), Count]);
                 figures.push(stock);
@@ -153,6 +162,7 @@ impl Walks<'_> {
         let refused = [
             vec![],
             [&shelved[..], &[0x04]].concat(),
+            [&shelved[..], &[0x05]].concat(),
             shelved[..12].to_vec(),
             [&shelved[..], &shelved].concat(),
             opening(60, 513, 6).bytes(),

@@ -5,6 +5,7 @@
 const OPEN: u8 = 0x01;
 const SHELVE: u8 = 0x02;
 const COUNT: u8 = 0x03;
+const WITHDRAW: u8 = 0x04;
 
 /// The largest capacity; the least is 1.
 pub const MOST_CAPACITY: u32 = 16_777_216;
@@ -65,6 +66,8 @@ impl Opening {
 pub enum Command {
     Shelve(u32),
     Count,
+    /// Takes out what the command of this number shelved.
+    Withdraw(u16),
 }
 
 impl Command {
@@ -72,6 +75,7 @@ impl Command {
         match self {
             Self::Shelve(size) => [&[SHELVE][..], &size.to_be_bytes()].concat(),
             Self::Count => vec![COUNT],
+            Self::Withdraw(number) => [&[WITHDRAW][..], &number.to_be_bytes()].concat(),
         }
     }
 }
@@ -102,12 +106,22 @@ impl Stream {
         self.pieces().concat()
     }
 
-    /// The accepted items, each with its bin, by these answers.
+    /// The size that the command of this number sends, if it sends one.
+    pub fn size_of(&self, number: u16) -> Option<u32> {
+        let place = usize::from(number).checked_sub(1)?;
+        match self.commands.get(place)? {
+            Command::Shelve(size) => Some(*size),
+            Command::Count | Command::Withdraw(_) => None,
+        }
+    }
+
+    /// The accepted items, each with its bin, by these answers, whether or not
+    /// they were taken out later.
     pub fn placed(&self, answers: &[u16]) -> Vec<(u32, u32)> {
         let answered = self.commands.iter().zip(answers);
         let placed = answered.filter_map(|(command, &word)| match *command {
             Command::Shelve(size) => Some((size, answer(word).ok()?.into())),
-            Command::Count => None,
+            Command::Count | Command::Withdraw(_) => None,
         });
         placed.collect()
     }
@@ -183,7 +197,11 @@ fn first_part(bytes: &[u8]) -> Option<(Part<'_>, &[u8])> {
             (Part::Command(Command::Shelve(size)), rest)
         }
         [COUNT, ref rest @ ..] => (Part::Command(Command::Count), rest),
-        [OPEN | SHELVE, ..] => (Part::CutShort(bytes), &[]),
+        [WITHDRAW, a, b, ref rest @ ..] => {
+            let number = u16::from_be_bytes([a, b]);
+            (Part::Command(Command::Withdraw(number)), rest)
+        }
+        [OPEN | SHELVE | WITHDRAW, ..] => (Part::CutShort(bytes), &[]),
         [byte, ref rest @ ..] => (Part::Unknown(byte), rest),
     })
 }
@@ -206,18 +224,21 @@ pub const fn refused_word(number: u16) -> u16 {
 mod tests {
     use super::*;
 
-    /// The paper's sample as far as its first count, in the paper's bytes.
-    const SAMPLE: [u8; 14] = [1, 0, 0, 0, 0x3C, 0, 4, 6, 2, 0, 0, 0, 0x23, 3];
+    /// The paper's sample with its first master and its count, in the paper's
+    /// bytes, and then the request's that takes the master out.
+    const SAMPLE: [u8; 17] = [1, 0, 0, 0, 0x3C, 0, 4, 6, 2, 0, 0, 0, 0x23, 3, 4, 0, 1];
 
     #[test]
     fn bytes_are_read_and_written_as_the_paper_has_them() {
         let stream = Stream {
             opening: opening(60, 4, 6),
-            commands: vec![Command::Shelve(35), Command::Count],
+            commands: vec![Command::Shelve(35), Command::Count, Command::Withdraw(1)],
         };
         assert_eq!(stream.bytes(), SAMPLE);
         assert_eq!(Stream::read(&SAMPLE), Ok(stream));
         assert_eq!(Stream::read(&SAMPLE[..12]), refuse(3, 8));
+        assert_eq!(Stream::read(&SAMPLE[..15]), refuse(3, 14));
+        assert_eq!(Stream::read(&SAMPLE[..16]), refuse(3, 14));
     }
 
     #[test]
@@ -240,7 +261,7 @@ mod tests {
     fn answers_and_words_go_both_ways() {
         assert_eq!(answer(0), Ok(0));
         assert_eq!(answer(32_767), Ok(32_767));
-        for number in [8, 9, 10] {
+        for number in [8, 9, 10, 17] {
             assert_eq!(answer(refused_word(number)), Err(number));
         }
     }

@@ -1,0 +1,259 @@
+//! Which items are still shelved, by the answers alone and without the method;
+//! and what has to go by them: the totals, the counts, the vault sheet and the
+//! shelf's own plan.
+
+use crate::compare::{plan_by_library, Outcome};
+use crate::figures::{on_sheet, Figures};
+use crate::paper::Totals;
+use crate::plans::PlanTrial;
+use crate::streams::StreamTrial;
+use crate::wire::{answer, Command, Stream};
+
+/// The shelf as the answers tell it.
+#[derive(Default)]
+struct Told {
+    /// The item of each command so far, its size and its bin, while it is
+    /// shelved.
+    items: Vec<Option<(u32, u16)>>,
+    /// The bins that were opened, emptied or not.
+    opened: u16,
+}
+
+impl Told {
+    /// Takes in the answer to the next command, or says why it cannot be
+    /// answered so.
+    fn take_in(&mut self, command: Command, word: u16) -> Result<(), &'static str> {
+        let mut item = None;
+        match (command, answer(word)) {
+            (Command::Shelve(size), Ok(bin)) => {
+                if !(1..=self.opened + 1).contains(&bin) {
+                    return Err("a cartridge is opened out of turn");
+                }
+                self.opened = self.opened.max(bin);
+                item = Some((size, bin));
+            }
+            (Command::Shelve(_), Err(8..=10)) => {}
+            (Command::Count, Ok(figure)) if figure == self.opened => {}
+            (Command::Count, Ok(_)) => return Err("a count is not of every cartridge opened"),
+            (Command::Withdraw(named), Ok(bin)) => match self.take_out(named) {
+                Some((_, its)) if its == bin => {}
+                Some(_) => return Err("a master leaves another cartridge than it was answered"),
+                None => return Err("a master is taken out that is not on the shelf"),
+            },
+            (Command::Withdraw(named), Err(17)) => {
+                if self.take_out(named).is_some() {
+                    return Err("a master that is on the shelf is not taken out");
+                }
+            }
+            _ => return Err("a command is answered with a refusal that is not its own"),
+        }
+        self.items.push(item);
+        Ok(())
+    }
+
+    /// The item of the command with this number, which then is out.
+    fn take_out(&mut self, number: u16) -> Option<(u32, u16)> {
+        let place = usize::from(number).checked_sub(1)?;
+        self.items.get_mut(place)?.take()
+    }
+
+    /// The items in the order of their commands.
+    fn shelved(&self) -> impl Iterator<Item = (u32, u16)> + '_ {
+        self.items.iter().copied().flatten()
+    }
+
+    /// The load of each bin, and how many items it holds.
+    fn loads_and_held(&self) -> (Figures, Figures) {
+        let none: Figures = (1..=self.opened).map(|bin| (bin, 0)).collect();
+        let (mut loads, mut held) = (none.clone(), none);
+        for (size, bin) in self.shelved() {
+            loads[usize::from(bin) - 1].1 += size;
+            held[usize::from(bin) - 1].1 += 1;
+        }
+        (loads, held)
+    }
+
+    /// The plan of the items, with k the number opened.
+    fn own_plan(&self, capacity: u32) -> PlanTrial {
+        let items: Vec<u32> = self.shelved().map(|(size, _)| size).collect();
+        PlanTrial {
+            kind: "own plan",
+            sizes: items.clone(),
+            bins: self.shelved().map(|(_, bin)| bin.into()).collect(),
+            items,
+            capacity,
+            k: self.opened.into(),
+        }
+    }
+}
+
+/// What is wrong with the items that an accepted stream leaves shelved.
+pub fn fault(trial: &StreamTrial, outcome: &Outcome) -> Option<&'static str> {
+    let totals = outcome.totals()?;
+    let Stream { opening, commands } = Stream::read(&trial.stream).ok()?;
+    let mut told = Told::default();
+    for (command, &word) in commands.into_iter().zip(outcome.rows.answers()) {
+        if let Err(fault) = told.take_in(command, word) {
+            return Some(fault);
+        }
+    }
+    let still_shelved = Totals {
+        items: told.shelved().count(),
+        opened: told.opened.into(),
+    };
+    if totals != still_shelved {
+        return Some("the totals are not of what is still shelved and was opened");
+    }
+    let (loads, held) = told.loads_and_held();
+    if on_sheet(&outcome.sheet, 8..=15) != Some(loads) {
+        return Some("the loads of the sheet are not of what is still shelved");
+    }
+    if on_sheet(&outcome.sheet, 26..=29) != Some(held) {
+        return Some("the sheet does not hold what is still shelved");
+    }
+    if plan_by_library(&told.own_plan(opening.capacity)) != Some(Ok(())) {
+        return Some("the shelf's own plan does not pass");
+    }
+    None
+}
+
+#[cfg(test)]
+mod tests {
+    use super::*;
+    use crate::cases::{case, sent};
+    use crate::rows::Lent;
+    use crate::wire::Command::{Count, Shelve, Withdraw};
+    use crate::wire::{opening, refused_word as r};
+    use crate::written::Written;
+
+    /// Two masters on one cartridge and one on another; the first is taken out
+    /// twice, which leaves 22 and 35.
+    const COMMANDS: [Command; 8] = [
+        Shelve(22),
+        Shelve(22),
+        Shelve(35),
+        Withdraw(1),
+        Withdraw(1),
+        Count,
+        Shelve(61),
+        Withdraw(7),
+    ];
+    const WORDS: [u16; 8] = [1, 1, 2, 1, r(17), 2, r(9), r(17)];
+    const FREE: [u32; 8] = [38, 16, 25, 38, 0, 0, 0, 0];
+    const TOTALS: Totals = Totals {
+        items: 2,
+        opened: 2,
+    };
+
+    fn trial(commands: &[Command]) -> StreamTrial {
+        case(
+            sent(opening(60, 4, 6), commands),
+            Lent::both(COMMANDS.len()),
+        )
+    }
+
+    /// The fault of the stream if it is answered with these words and totals.
+    fn found(words: &[u16], totals: Totals) -> Option<&'static str> {
+        let trial = trial(&COMMANDS);
+        fault(&trial, &Outcome::accepted(&trial, totals, words, &FREE))
+    }
+
+    #[test]
+    fn a_wrong_answer_is_found() {
+        assert_eq!(found(&WORDS, TOTALS), None);
+        for (place, word, expected) in [
+            (0, 2, "a cartridge is opened out of turn"),
+            (2, 3, "a cartridge is opened out of turn"),
+            (
+                3,
+                2,
+                "a master leaves another cartridge than it was answered",
+            ),
+            (3, r(17), "a master that is on the shelf is not taken out"),
+            (4, 1, "a master is taken out that is not on the shelf"),
+            (7, 1, "a master is taken out that is not on the shelf"),
+            (
+                4,
+                r(10),
+                "a command is answered with a refusal that is not its own",
+            ),
+            (
+                6,
+                r(17),
+                "a command is answered with a refusal that is not its own",
+            ),
+            (5, 1, "a count is not of every cartridge opened"),
+            (5, 3, "a count is not of every cartridge opened"),
+        ] {
+            let mut words = WORDS;
+            words[place] = word;
+            assert_eq!(found(&words, TOTALS), Some(expected), "{place}: {word}");
+        }
+    }
+
+    #[test]
+    fn wrong_totals_are_found() {
+        let expected = Some("the totals are not of what is still shelved and was opened");
+        for (items, opened) in [(3, 2), (1, 2), (2, 1), (2, 3)] {
+            let totals = Totals { items, opened };
+            assert_eq!(found(&WORDS, totals), expected, "{totals:?}");
+        }
+    }
+
+    #[test]
+    fn a_wrong_sheet_is_found() {
+        let lines = [
+            "PAGE   1                                \n",
+            "   1 3       22       38    1           \n",
+            "   2 1       35       25    1           \n",
+        ];
+        let trial = trial(&COMMANDS);
+        let mut outcome = Outcome::accepted(&trial, TOTALS, &WORDS, &FREE);
+        let mut with = |lines: &[&str]| {
+            outcome.sheet = Written::text(trial.fill, &lines.concat());
+            fault(&trial, &outcome)
+        };
+        assert_eq!(with(&lines), None);
+        let load = "   1 3       44       38    1           \n";
+        let held = "   1 3       22       38    2           \n";
+        let loads = Some("the loads of the sheet are not of what is still shelved");
+        assert_eq!(with(&[lines[0], load, lines[2]]), loads);
+        assert_eq!(with(&lines[..2]), loads);
+        assert_eq!(with(&["X 1 0\n"]), loads);
+        let holds = Some("the sheet does not hold what is still shelved");
+        assert_eq!(with(&[lines[0], held, lines[2]]), holds);
+    }
+
+    /// The plan is of what is still shelved: with the one taken out, or with a
+    /// k of the cartridges that hold something, it would not pass.
+    #[test]
+    fn the_own_plan_goes_by_what_is_still_shelved() {
+        let mut told = Told::default();
+        for (command, word) in COMMANDS.into_iter().zip(WORDS) {
+            told.take_in(command, word).expect("a right answer");
+        }
+        let plan = told.own_plan(60);
+        assert_eq!((plan.entries(), plan.k), (vec![(22, 1), (35, 2)], 2));
+        told.take_in(Withdraw(2), 1).expect("a right answer");
+        let plan = told.own_plan(60);
+        assert_eq!((plan.entries(), plan.k), (vec![(35, 2)], 2));
+        let fewer = PlanTrial { k: 1, ..plan };
+        assert!(plan_by_library(&fewer).is_some_and(|verdict| verdict.is_err()));
+    }
+
+    #[test]
+    fn a_plan_that_does_not_pass_is_found() {
+        let commands = [Shelve(35), Shelve(35), Withdraw(1), Shelve(35)];
+        let trial = trial(&commands);
+        // The third on top of the second, which has not left.
+        let mut outcome = Outcome::accepted(&trial, TOTALS, &[1, 2, 1, 2], &FREE[..4]);
+        let lines = [
+            "PAGE   1                                \n",
+            "   1 1        0       60    0           \n",
+            "   2 1       70        0    2           \n",
+        ];
+        outcome.sheet = Written::text(trial.fill, &lines.concat());
+        let expected = Some("the shelf's own plan does not pass");
+        assert_eq!(fault(&trial, &outcome), expected);
+    }
+}
