@@ -2,22 +2,36 @@
 
 use shelf::{StreamBuilder, MAX_COMMANDS, MAX_STOCK};
 
+use crate::scan::Scan;
+
 const CAPACITY: u32 = 1_000_000;
+const M: u8 = 6;
 
 pub struct Mix {
     pub name: &'static str,
     /// A size from the generator's numbers.
     size: fn(&mut Numbers) -> u32,
-    /// Whether a count follows every item, as panels send them.
-    counts: bool,
+    besides: Besides,
 }
 
-pub const MIXES: [Mix; 8] = [
+/// What is sent besides items.
+enum Besides {
+    Nothing,
+    /// A count after every item, as panels send them.
+    Counts,
+    /// About every third command is a withdrawal, of an item on the shelf but
+    /// for a few.
+    Withdrawals,
+    /// Once the stock is spent, an item is taken out before every item.
+    Refills,
+}
+
+pub const MIXES: [Mix; 10] = [
     // Any size; the stock is soon spent, and most are refused.
     Mix {
         name: "uniform",
         size: |numbers| numbers.between(1, CAPACITY),
-        counts: false,
+        besides: Besides::Nothing,
     },
     // Every class, and the stock suffices.
     Mix {
@@ -28,24 +42,24 @@ pub const MIXES: [Mix; 8] = [
             8..=11 => numbers.between(CAPACITY / 3 + 1, CAPACITY / 5 * 2),
             _ => numbers.between(1, CAPACITY / 12),
         },
-        counts: false,
+        besides: Besides::Nothing,
     },
     Mix {
         name: "small-x",
         size: |numbers| numbers.between(1, CAPACITY / 64),
-        counts: false,
+        besides: Besides::Nothing,
     },
     // X items over most of the stock.
     Mix {
         name: "mid-x",
         size: |numbers| numbers.between(CAPACITY / 16, CAPACITY / 8),
-        counts: false,
+        besides: Besides::Nothing,
     },
     // 512 A items, then each is refused.
     Mix {
         name: "spent-a",
         size: |numbers| numbers.between(CAPACITY / 2 + 1, CAPACITY),
-        counts: false,
+        besides: Besides::Nothing,
     },
     Mix {
         name: "b2-heavy",
@@ -54,19 +68,31 @@ pub const MIXES: [Mix; 8] = [
             8..=9 => numbers.between(CAPACITY / 2 + 1, CAPACITY / 4 * 3),
             _ => numbers.between(1, CAPACITY / 100),
         },
-        counts: false,
+        besides: Besides::Nothing,
     },
     // X items over some tens of bins, so that every walk is short.
     Mix {
         name: "count-short",
         size: |numbers| numbers.between(1, CAPACITY / 24),
-        counts: true,
+        besides: Besides::Counts,
     },
     // 512 A items, then each is refused, and every walk reads the whole stock.
     Mix {
         name: "count-full",
         size: |numbers| numbers.between(CAPACITY / 2 + 1, CAPACITY),
-        counts: true,
+        besides: Besides::Counts,
+    },
+    // Any size; what is taken out makes space for some.
+    Mix {
+        name: "withdrawn",
+        size: |numbers| numbers.between(1, CAPACITY),
+        besides: Besides::Withdrawals,
+    },
+    // 512 A items, then each finds the one bin that was just emptied.
+    Mix {
+        name: "refilled",
+        size: |numbers| numbers.between(CAPACITY / 2 + 1, CAPACITY),
+        besides: Besides::Refills,
     },
 ];
 
@@ -74,15 +100,73 @@ impl Mix {
     /// The stream of this number, the same in every run.
     pub fn stream(&self, seed: u64) -> StreamBuilder {
         let mut numbers = Numbers(seed);
-        let mut stream = StreamBuilder::open(CAPACITY, MAX_STOCK, 6);
-        let commands_an_item = if self.counts { 2 } else { 1 };
-        for _ in 0..MAX_COMMANDS / commands_an_item {
-            stream.shelve((self.size)(&mut numbers));
-            if self.counts {
-                stream.count();
+        let mut making = Making::new();
+        while making.stream.commands() < MAX_COMMANDS {
+            let withdraws = match self.besides {
+                Besides::Nothing | Besides::Counts => false,
+                Besides::Withdrawals => numbers.between(1, 3) == 1,
+                Besides::Refills => making.shelved.len() == MAX_STOCK.into(),
+            };
+            if withdraws {
+                making.withdraw(&mut numbers);
+            } else {
+                making.shelve((self.size)(&mut numbers));
+            }
+            if let Besides::Counts = self.besides {
+                making.count();
             }
         }
-        stream
+        making.stream
+    }
+}
+
+/// A stream in the making, with what lies on its shelf.
+struct Making {
+    stream: StreamBuilder,
+    shelf: Scan,
+    /// The numbers of the items on the shelf, and of those taken out.
+    shelved: Vec<u16>,
+    gone: Vec<u16>,
+}
+
+impl Making {
+    fn new() -> Self {
+        Self {
+            stream: StreamBuilder::open(CAPACITY, MAX_STOCK, M),
+            shelf: Scan::open(CAPACITY, MAX_STOCK, M),
+            shelved: Vec::new(),
+            gone: Vec::new(),
+        }
+    }
+
+    fn shelve(&mut self, size: u32) {
+        self.stream.shelve(size);
+        let (word, _) = self.shelf.shelve(size);
+        if word < 0x8000 {
+            self.shelved.push(self.stream.commands() as u16);
+        }
+    }
+
+    fn count(&mut self) {
+        self.stream.count();
+        self.shelf.count();
+    }
+
+    /// Takes out an item on the shelf, where there is one; one time in twenty it
+    /// names one that is gone already.
+    fn withdraw(&mut self, numbers: &mut Numbers) {
+        let again = numbers.between(1, 20) == 1;
+        let number = if again && !self.gone.is_empty() {
+            self.gone[numbers.place(&self.gone)]
+        } else if self.shelved.is_empty() {
+            0
+        } else {
+            let number = self.shelved.swap_remove(numbers.place(&self.shelved));
+            self.gone.push(number);
+            number
+        };
+        self.stream.withdraw(number);
+        self.shelf.withdraw(number);
     }
 }
 
@@ -96,5 +180,10 @@ impl Numbers {
             .wrapping_mul(6_364_136_223_846_793_005)
             .wrapping_add(1_442_695_040_888_963_407);
         least + ((self.0 >> 33) % u64::from(most - least + 1)) as u32
+    }
+
+    /// A place in a row that is not empty.
+    fn place(&mut self, row: &[u16]) -> usize {
+        self.between(0, row.len() as u32 - 1) as usize
     }
 }

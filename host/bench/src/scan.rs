@@ -3,41 +3,52 @@
 
 struct Bin {
     class: u8,
-    has_a: bool,
+    /// The A items that it holds.
+    held_a: u32,
     free: u32,
 }
 
-pub fn shelve(stream: &[u8], answers: &mut [u16], free: &mut [u32]) -> u64 {
-    let capacity = u32::from_be_bytes([stream[1], stream[2], stream[3], stream[4]]);
-    let stock = usize::from(u16::from_be_bytes([stream[5], stream[6]]));
-    let m = u32::from(stream[7]);
-    let mut bins: Vec<Bin> = Vec::with_capacity(stock);
-    let mut accepted = 0;
-    let mut b2_accepted = 0;
+/// A shelf that answers one command after another, by both words.
+pub struct Scan {
+    capacity: u32,
+    stock: usize,
+    m: u32,
+    bins: Vec<Bin>,
+    /// The place and the size of each command's item, while it is shelved.
+    items: Vec<Option<(usize, u32)>>,
+    shelved: u64,
+    b2_accepted: u32,
+}
 
-    let mut rest = &stream[8..];
-    for (word, left) in answers.iter_mut().zip(free) {
-        let size = match *rest {
-            [0x02, a, b, c, d, ref after @ ..] => {
-                rest = after;
-                u32::from_be_bytes([a, b, c, d])
-            }
-            [_, ref after @ ..] => {
-                rest = after;
-                // A number that is kept: what a walk costs shows beside it.
-                (*word, *left) = (bins.len() as u16, 0);
-                continue;
-            }
-            [] => break,
-        };
-        if size == 0 || size > capacity {
-            let number = if size == 0 { 8 } else { 9 };
-            (*word, *left) = (0x8000 + number, 0);
-            continue;
+const fn refused(number: u16) -> (u16, u32) {
+    (0x8000 + number, 0)
+}
+
+impl Scan {
+    pub fn open(capacity: u32, stock: u16, m: u8) -> Self {
+        Self {
+            capacity,
+            stock: stock.into(),
+            m: m.into(),
+            bins: Vec::with_capacity(stock.into()),
+            items: Vec::new(),
+            shelved: 0,
+            b2_accepted: 0,
+        }
+    }
+
+    pub fn shelve(&mut self, size: u32) -> (u16, u32) {
+        self.items.push(None);
+        let capacity = self.capacity;
+        if size == 0 {
+            return refused(8);
+        }
+        if size > capacity {
+            return refused(9);
         }
         let is_a = 2 * size > capacity;
         let is_b2 = 3 * size > capacity && 5 * size <= 2 * capacity;
-        let beside_an_a = is_b2 && (b2_accepted + 1) % m == 0;
+        let beside_an_a = is_b2 && (self.b2_accepted + 1).is_multiple_of(self.m);
         let class = if is_a || beside_an_a {
             1
         } else if 5 * size > 2 * capacity {
@@ -48,27 +59,70 @@ pub fn shelve(stream: &[u8], answers: &mut [u16], free: &mut [u32]) -> u64 {
             4
         };
         let fits =
-            |bin: &Bin| bin.class == class && bin.free >= size && (!beside_an_a || bin.has_a);
-        let place = match bins.iter().position(fits) {
+            |bin: &Bin| bin.class == class && bin.free >= size && (!beside_an_a || bin.held_a > 0);
+        let place = match self.bins.iter().position(fits) {
             Some(place) => place,
-            None if bins.len() == stock => {
-                (*word, *left) = (0x8000 + 10, 0);
-                continue;
-            }
+            None if self.bins.len() == self.stock => return refused(10),
             None => {
-                bins.push(Bin {
+                self.bins.push(Bin {
                     class,
-                    has_a: false,
+                    held_a: 0,
                     free: capacity,
                 });
-                bins.len() - 1
+                self.bins.len() - 1
             }
         };
-        bins[place].free -= size;
-        bins[place].has_a |= is_a;
-        b2_accepted += u32::from(is_b2);
-        accepted += 1;
-        (*word, *left) = (place as u16 + 1, bins[place].free);
+        let bin = &mut self.bins[place];
+        bin.free -= size;
+        bin.held_a += u32::from(is_a);
+        self.b2_accepted += u32::from(is_b2);
+        self.shelved += 1;
+        let last = self.items.len() - 1;
+        self.items[last] = Some((place, size));
+        (place as u16 + 1, bin.free)
     }
-    accepted << 16 | bins.len() as u64
+
+    /// A number that is kept: what a walk costs shows beside it.
+    pub fn count(&mut self) -> (u16, u32) {
+        self.items.push(None);
+        (self.bins.len() as u16, 0)
+    }
+
+    pub fn withdraw(&mut self, number: u16) -> (u16, u32) {
+        self.items.push(None);
+        let named = usize::from(number).wrapping_sub(1);
+        let Some((place, size)) = self.items.get_mut(named).and_then(Option::take) else {
+            return refused(17);
+        };
+        let bin = &mut self.bins[place];
+        bin.free += size;
+        bin.held_a -= u32::from(2 * size > self.capacity);
+        self.shelved -= 1;
+        (place as u16 + 1, bin.free)
+    }
+}
+
+pub fn shelve(stream: &[u8], answers: &mut [u16], free: &mut [u32]) -> u64 {
+    let capacity = u32::from_be_bytes([stream[1], stream[2], stream[3], stream[4]]);
+    let stock = u16::from_be_bytes([stream[5], stream[6]]);
+    let mut scan = Scan::open(capacity, stock, stream[7]);
+    let mut rest = &stream[8..];
+    for (word, left) in answers.iter_mut().zip(free) {
+        (*word, *left) = match *rest {
+            [0x02, a, b, c, d, ref after @ ..] => {
+                rest = after;
+                scan.shelve(u32::from_be_bytes([a, b, c, d]))
+            }
+            [0x04, a, b, ref after @ ..] => {
+                rest = after;
+                scan.withdraw(u16::from_be_bytes([a, b]))
+            }
+            [_, ref after @ ..] => {
+                rest = after;
+                scan.count()
+            }
+            [] => break,
+        };
+    }
+    scan.shelved << 16 | scan.bins.len() as u64
 }

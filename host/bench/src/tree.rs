@@ -1,5 +1,6 @@
-//! The same algorithm by hand: tournament trees in safe Rust, and beside them a
-//! row of figures for each bin, as a vault sheet needs them and a count walks.
+//! The same algorithm by hand: tournament trees in safe Rust; beside them a row
+//! of figures for each bin, as a vault sheet needs them and a count walks, and
+//! the bin and the size of each command's item, for a withdrawal to find them.
 
 use std::hint::black_box;
 
@@ -13,7 +14,12 @@ type Tree = [u32; 2 * MAX_LEAVES];
 /// space, the items that it holds, and how many of these are A.
 type Rows = [[u32; 4]; MAX_LEAVES];
 
+/// The place and the size of each command's item; size 0 where there is none, or
+/// none any more.
+type Items = [(u32, u32); MAX_COMMANDS];
+
 const MAX_LEAVES: usize = 512;
+const MAX_COMMANDS: usize = 4096;
 const WITH_A: usize = 0;
 
 /// The first leaf with space for this size; the root must have it.
@@ -42,6 +48,22 @@ fn store(tree: &mut Tree, leaf: usize, free: u32) {
             break;
         }
         tree[node] = largest;
+    }
+}
+
+/// The same for a leaf whose free space rises: no sibling can be larger than
+/// the maximum above it.
+#[inline(always)]
+fn raise(tree: &mut Tree, leaf: usize, free: u32) {
+    // As above.
+    let mut node = leaf % tree.len();
+    tree[node] = free;
+    while node > 1 {
+        node /= 2;
+        if tree[node] >= free {
+            break;
+        }
+        tree[node] = free;
     }
 }
 
@@ -81,6 +103,35 @@ fn show_class_1(trees: &mut Trees, leaf: usize, free: u32, held_a: u32) {
     store(&mut trees[WITH_A], leaf, if held_a > 0 { free } else { 0 });
 }
 
+/// Takes out the item of a command: its place, and the free space then.
+// Not inlined: the loop over the commands then keeps its registers.
+#[inline(never)]
+fn take_out(
+    items: &mut Items,
+    rows: &mut Rows,
+    trees: &mut Trees,
+    leaves: usize,
+    capacity: u32,
+    number: u16,
+) -> Option<(u32, u32)> {
+    let named = items.get_mut(usize::from(number).wrapping_sub(1))?;
+    let (place, size @ 1..) = *named else {
+        return None;
+    };
+    *named = (0, 0);
+    // The masks change nothing, and spare checks of bounds.
+    let row = &mut rows[place as usize % MAX_LEAVES];
+    let [class, free, held, held_a] = *row;
+    let (free, held_a) = (free + size, held_a - u32::from(2 * size > capacity));
+    *row = [class, free, held - 1, held_a];
+    let leaf = leaves + place as usize;
+    raise(&mut trees[class as usize % trees.len()], leaf, free);
+    if class == 1 {
+        store(&mut trees[WITH_A], leaf, if held_a > 0 { free } else { 0 });
+    }
+    Some((place, free))
+}
+
 struct Opening {
     capacity: u32,
     stock: usize,
@@ -110,14 +161,23 @@ fn read(stream: &[u8]) -> Result<(Opening, usize), u64> {
     }
     let mut offset = 8;
     let mut commands = 0;
-    while let Some(&byte) = stream.get(offset) {
-        if commands == 4096 {
+    loop {
+        // Items by themselves: the branches are foreseen, and wait for nothing.
+        while commands < MAX_COMMANDS && matches!(stream[offset..], [0x02, _, _, _, _, ..]) {
+            offset += 5;
+            commands += 1;
+        }
+        let Some(&byte) = stream.get(offset) else {
+            return Ok((opening, commands));
+        };
+        if commands == MAX_COMMANDS {
             return Err(refused(6, offset));
         }
         let len = match byte {
             0x01 => return Err(refused(4, offset)),
             0x02 => 5,
             0x03 => 1,
+            0x04 => 3,
             _ => return Err(refused(2, offset)),
         };
         if stream.len() - offset < len {
@@ -126,7 +186,6 @@ fn read(stream: &[u8]) -> Result<(Opening, usize), u64> {
         offset += len;
         commands += 1;
     }
-    Ok((opening, commands))
 }
 
 /// The packed result is that of the library's C interface.
@@ -155,17 +214,32 @@ fn shelve_and_enter(
     let Opening { capacity, stock, m } = opening;
     let leaves = stock.next_power_of_two();
     let mut trees: Trees = [[0; 2 * MAX_LEAVES]; 5];
+    let mut items: Items = [(0, 0); MAX_COMMANDS];
     let mut opened = 0;
-    let mut accepted = 0;
+    let mut shelved = 0;
     let mut to_next_m = m; // B2 items up to and with the next m-th
 
     let mut rest = &stream[8..];
     let words = answers[..commands].iter_mut();
-    for (word, left) in words.zip(&mut free_units[..commands]) {
+    let words = words.zip(&mut free_units[..commands]);
+    for ((word, left), item) in words.zip(0..MAX_COMMANDS) {
         let size = match *rest {
             [0x02, s0, s1, s2, s3, ref after @ ..] => {
                 rest = after;
                 u32::from_be_bytes([s0, s1, s2, s3])
+            }
+            [0x04, n0, n1, ref after @ ..] => {
+                rest = after;
+                let number = u16::from_be_bytes([n0, n1]);
+                let out = take_out(&mut items, rows, &mut trees, leaves, capacity, number);
+                (*word, *left) = match out {
+                    Some((place, free)) => {
+                        shelved -= 1;
+                        ((place + 1) as u16, free)
+                    }
+                    None => (0x8000 + 17, 0),
+                };
+                continue;
             }
             [_, ref after @ ..] => {
                 rest = after;
@@ -227,10 +301,11 @@ fn shelve_and_enter(
                 store(&mut trees[tree], leaf, free);
             }
         }
-        accepted += 1;
+        items[item] = (place as u32, size);
+        shelved += 1;
         (*word, *left) = ((place + 1) as u16, free);
     }
-    accepted << 16 | opened as u64
+    shelved << 16 | opened as u64
 }
 
 #[cfg(test)]
@@ -257,13 +332,37 @@ mod tests {
             for (expected, row) in expected.iter_mut().zip(shelf::sheet(stream.bytes()).rows()) {
                 *expected = [row.class.into(), row.free, row.held.into(), 0];
             }
-            for answered in shelf::answers(stream.bytes(), &words, &free) {
-                if let (Command::Shelve { size }, Answer::Placed { bin, .. }) = answered {
-                    expected[usize::from(bin) - 1][3] += u32::from(2 * size > capacity);
+            let mut sizes = Vec::new();
+            for (command, answer) in shelf::answers(stream.bytes(), &words, &free) {
+                let a = |size: u32| u32::from(2 * size > capacity);
+                sizes.push(0);
+                match (command, answer) {
+                    (Command::Shelve { size }, Answer::Placed { bin, .. }) => {
+                        *sizes.last_mut().unwrap() = size;
+                        expected[usize::from(bin) - 1][3] += a(size);
+                    }
+                    (Command::Withdraw { number }, Answer::Withdrawn { bin, .. }) => {
+                        let size = sizes[usize::from(number) - 1];
+                        expected[usize::from(bin) - 1][3] -= a(size);
+                    }
+                    _ => {}
                 }
             }
             assert_eq!(rows, expected, "{}", mix.name);
         }
+    }
+
+    #[test]
+    fn names_of_no_item_are_refused() {
+        let mut stream = StreamBuilder::open(60, 2, 6);
+        stream.shelve(35).shelve(61).count().withdraw(1);
+        for number in [0, 1, 2, 3, 4, 10, 11, 4096, 4097, u16::MAX] {
+            stream.withdraw(number);
+        }
+        let (mut words, mut free) = stream.rows();
+        let result = shelve(stream.bytes(), &mut words, &mut free);
+        assert_eq!((result, &words[..4]), (1, &[1, 0x8009, 1, 1][..]));
+        assert_eq!((words[4..].to_vec(), free[3]), (vec![0x8011; 10], 60));
     }
 
     #[test]
@@ -275,7 +374,7 @@ mod tests {
                 match answer {
                     Answer::Placed { bin, .. } => bins = bins.max(bin),
                     Answer::Counted { opened } => assert_eq!(opened, bins, "{}", mix.name),
-                    Answer::Refused(_) => {}
+                    Answer::Withdrawn { .. } | Answer::Refused(_) => {}
                 }
             }
             // The first rows are those of a smaller stock.
