@@ -59,7 +59,15 @@ $1 == "count" {
     next
 }
 
-{ bad("`" $1 "` is no command: open, shelve or count") }
+$1 == "withdraw" {
+    operands(1, "number")
+    named = number("number", $2, 65535, "; it must be from 1 to 4096")
+    must_be_open()
+    printf "%d 04%04X\n", NR, named
+    next
+}
+
+{ bad("`" $1 "` is no command: open, shelve, count or withdraw") }
 
 END {
     if (failed)

@@ -9,15 +9,24 @@ function spot(n) { return rows ? "line " line[n] : "byte " start[n] }
 
 function hex(at) { return sprintf("%02X", byte[at]) }
 
-function word(at) { return ((byte[at] * 256 + byte[at + 1]) * 256 + byte[at + 2]) * 256 + byte[at + 3] }
+function half(at) { return byte[at] * 256 + byte[at + 1] }
 
-# Where each command starts, and the sizes of the masters.
-function walk(    at, width) {
+function word(at) { return half(at) * 65536 + half(at + 2) }
+
+# Where each command starts, and what it is called: a master by its size, a withdrawal by the number that it names.
+function walk(    at) {
     start[0] = 0
-    for (at = 8; at < bytes; at += width) {
+    at = 8
+    while (at < bytes) {
         start[++commands] = at
-        width = byte[at] == 2 ? 5 : 1
-        size[commands] = word(at + 1)
+        if (byte[at] == 2) {
+            what[commands] = "the master of " word(at + 1) " units"
+            at += 5
+        } else if (byte[at] == 4) {
+            what[commands] = "the withdrawal of " half(at + 1)
+            at += 3
+        } else
+            at++
     }
 }
 
@@ -32,22 +41,22 @@ function refuse_stream(number, offset) {
     if (number == 1)
         say("byte 0", "the stream " (bytes ? "starts with " hex(0) : "is empty") "; it must start with the opening, 01")
     else if (number == 2)
-        say("byte " offset, "there is no command " hex(offset) ": only 01, 02 and 03")
+        say("byte " offset, "there is no command " hex(offset) ": only 01, 02, 03 and 04")
     else if (number == 3)
         say("byte " offset, "the stream ends before the operands of " hex(offset) " do")
     else if (number == 4)
         say("byte " offset, "a second opening; a stream has one")
     else if (number == 5) {
         limits("capacity", word(1), 1, 16777216)
-        limits("stock", byte[5] * 256 + byte[6], 1, 512)
+        limits("stock", half(5), 1, 512)
         limits("m", byte[7], 6, 9)
     } else
         too_many()
 }
 
-function refuse_master(n, number) {
+function refuse_command(n, number) {
     if (++refused <= 20)
-        say(spot(n), "the master of " size[n] " units (command " n ") was refused with " number ": " why[number])
+        say(spot(n), what[n] " (command " n ") was refused with " number ": " why[number])
 }
 
 BEGIN {
@@ -55,6 +64,7 @@ BEGIN {
     why[8] = "size 0"
     why[9] = "size above the capacity"
     why[10] = "a new cartridge is called for and the stock is spent"
+    why[17] = "no master of that number is on the shelf"
 }
 
 part == "row" { line[rows++] = $1; next }
@@ -72,10 +82,10 @@ $1 == "L" {
     say(rows ? spot(commands) : "byte 32768", "here the stream grows longer than 32768 bytes")
 }
 
-$1 == "R" { refuse_master($2, $3) }
+$1 == "R" { refuse_command($2, $3) }
 
 END {
     more = refused - 20
     if (more > 0)
-        print "run: ... and " more " more refused master" (more > 1 ? "s" : "")
+        print "run: ... and " more " more refused command" (more > 1 ? "s" : "")
 }

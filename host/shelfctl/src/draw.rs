@@ -22,8 +22,8 @@ impl fmt::Display for Drawing<'_> {
         let (items, bins) = (packing.items(), packing.bins.len());
         writeln!(
             f,
-            "{items} masters in {bins} cartridges, {used} of {units} units; {} refused",
-            packing.refused
+            "{items} masters in {bins} cartridges, {used} of {units} units; {}",
+            packing.elsewhere()
         )?;
         if packing.bins.is_empty() {
             return Ok(());
@@ -40,7 +40,9 @@ impl fmt::Display for Drawing<'_> {
             } = bin.row;
             let bar = bar(bin, capacity);
             writeln!(f, "{number:>5}{class:>6}{load:>9}{free:>9} │{bar}│")?;
-            write_items(f, bin)?;
+            if !bin.items.is_empty() {
+                write_items(f, bin)?;
+            }
         }
         Ok(())
     }

@@ -45,19 +45,23 @@ fn accepted(shelved: &Shelved) -> String {
 }
 
 fn answer(number: usize, (command, answer): (Command, Answer)) -> String {
-    let size = match command {
-        Command::Shelve { size } => format!(", \"size\": {size}"),
-        Command::Count => String::new(),
+    let operand = match (command, answer) {
+        (Command::Shelve { size }, _) => format!(", \"size\": {size}"),
+        (Command::Count, _) => String::new(),
+        (Command::Withdraw { number }, Answer::Refused(_)) => format!(", \"withdraw\": {number}"),
+        (Command::Withdraw { number }, _) => format!(", \"withdrawn\": {number}"),
     };
     let result = match answer {
-        Answer::Placed { bin, free } => format!("\"cartridge\": {bin}, \"free\": {free}"),
+        Answer::Placed { bin, free } | Answer::Withdrawn { bin, free } => {
+            format!("\"cartridge\": {bin}, \"free\": {free}")
+        }
         Answer::Counted { opened } => format!("\"count\": {opened}"),
         Answer::Refused(why) => {
             let reason = string(&why.to_string());
             format!("\"refusal\": {}, \"reason\": {reason}", why.number())
         }
     };
-    format!("{{\"command\": {number}{size}, {result}}}")
+    format!("{{\"command\": {number}{operand}, {result}}}")
 }
 
 fn cartridges(packing: &Packing) -> String {
@@ -116,6 +120,7 @@ mod tests {
     fn a_shelf_is_one_object() {
         let mut stream = shelf::StreamBuilder::open(60, 1, 6);
         stream.shelve(35).shelve(61).count();
+        stream.withdraw(1).withdraw(1).shelve(40);
         let source = Source::raw(stream.into_bytes());
         let outcome = Outcome::of(&source);
         let expected = r#"{
@@ -124,11 +129,14 @@ mod tests {
 "answers": [
 {"command": 1, "size": 35, "cartridge": 1, "free": 25},
 {"command": 2, "size": 61, "refusal": 9, "reason": "size above the capacity"},
-{"command": 3, "count": 1}
+{"command": 3, "count": 1},
+{"command": 4, "withdrawn": 1, "cartridge": 1, "free": 60},
+{"command": 5, "withdraw": 1, "refusal": 17, "reason": "no master of that number is on the shelf"},
+{"command": 6, "size": 40, "cartridge": 1, "free": 20}
 ],
 "totals": {"masters": 1, "cartridges": 1},
 "cartridges": [
-{"number": 1, "class": 1, "load": 35, "free": 25, "held": 1, "commands": [1]}
+{"number": 1, "class": 1, "load": 40, "free": 20, "held": 1, "commands": [6]}
 ]
 }
 "#;

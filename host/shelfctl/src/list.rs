@@ -19,12 +19,13 @@ impl fmt::Display for List<'_> {
                 free,
                 held,
             } = bin.row;
-            let commands: Vec<String> = bin.commands().map(|n| n.to_string()).collect();
-            let commands = commands.join(" ");
-            writeln!(
-                f,
-                "{number:>5}{class:>6}{load:>9}{free:>9}{held:>6}  {commands}"
-            )?;
+            write!(f, "{number:>5}{class:>6}{load:>9}{free:>9}{held:>6}")?;
+            let mut before = "  ";
+            for command in bin.commands() {
+                write!(f, "{before}{command}")?;
+                before = " ";
+            }
+            writeln!(f)?;
         }
         Ok(())
     }

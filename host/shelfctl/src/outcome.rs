@@ -47,7 +47,7 @@ impl Outcome {
         match self {
             Self::TooLong => words::of_length(source),
             Self::Refused(refusal) => words::of_stream(source, *refusal),
-            Self::Shelved(shelved) => words::of_masters(source, &shelved.answers),
+            Self::Shelved(shelved) => words::of_commands(source, &shelved.answers),
         }
     }
 }
@@ -71,6 +71,7 @@ impl Shelved {
             lines += &match answer {
                 Answer::Placed { bin, free } => format!("P {number} {bin} {free}\n"),
                 Answer::Counted { opened } => format!("C {number} {opened}\n"),
+                Answer::Withdrawn { bin, .. } => format!("O {number} {bin}\n"),
                 Answer::Refused(refusal) => format!("R {number} {}\n", refusal.number()),
             };
         }

@@ -1,5 +1,5 @@
 //! The shelf after a stream: what its sheet says of each cartridge, and the
-//! masters that the answers put there.
+//! masters that the answers leave there.
 
 use shelf::{Answer, Command, Opening, Row};
 
@@ -27,6 +27,8 @@ pub struct Packing {
     pub bins: Vec<Bin>,
     /// The masters refused.
     pub refused: usize,
+    /// The masters taken out again.
+    pub withdrawn: usize,
 }
 
 impl Packing {
@@ -42,6 +44,7 @@ impl Packing {
             opening,
             bins: sheet.rows().iter().map(bin).collect(),
             refused: 0,
+            withdrawn: 0,
         };
         for (command, &answered) in (1..).zip(answers) {
             match answered {
@@ -49,11 +52,26 @@ impl Packing {
                     let bin = &mut packing.bins[usize::from(bin) - 1];
                     bin.items.push(Item { command, size });
                 }
-                (_, Answer::Refused(_)) => packing.refused += 1,
+                (Command::Shelve { .. }, Answer::Refused(_)) => packing.refused += 1,
+                (Command::Withdraw { number }, Answer::Withdrawn { bin, .. }) => {
+                    let bin = &mut packing.bins[usize::from(bin) - 1];
+                    bin.items.retain(|item| item.command != number.into());
+                    packing.withdrawn += 1;
+                }
                 _ => {}
             }
         }
         packing
+    }
+
+    /// What is on no cartridge: how many masters were refused, and how many were
+    /// taken out again, if any.
+    pub fn elsewhere(&self) -> String {
+        let refused = format!("{} refused", self.refused);
+        match self.withdrawn {
+            0 => refused,
+            withdrawn => format!("{refused}, {withdrawn} withdrawn"),
+        }
     }
 
     pub fn items(&self) -> usize {
@@ -74,23 +92,49 @@ impl Packing {
 mod tests {
     use super::*;
     use crate::outcome::Shelved;
+    use shelf::Totals;
 
-    #[test]
-    fn the_masters_of_a_cartridge_are_those_of_its_row() {
+    /// A packing and its totals: every third command takes out what a command
+    /// before it shelved, or nothing.
+    fn packing(withdrawals: bool) -> (Packing, Totals) {
         let mut stream = shelf::StreamBuilder::open(1_000, 90, 7);
         for i in 0..600 {
             stream.shelve(i * 37 % 1_010).count();
+            if withdrawals {
+                stream.withdraw((i * 71 % (3 * i + 5)) as u16);
+            }
         }
         let Shelved {
             totals, packing, ..
         } = Shelved::of(stream.bytes()).unwrap();
-        assert_eq!(packing.bins.len(), usize::from(totals.opened));
-        assert_eq!(packing.items(), usize::from(totals.items));
-        assert_eq!(packing.items() + packing.refused, 600);
-        for (number, Bin { row, items }) in (1..).zip(&packing.bins) {
-            assert_eq!(row.number, number);
-            assert_eq!(usize::from(row.held), items.len());
-            assert_eq!(row.load, items.iter().map(|item| item.size).sum());
+        (packing, totals)
+    }
+
+    #[test]
+    fn the_masters_of_a_cartridge_are_those_of_its_row() {
+        for withdrawals in [false, true] {
+            let (packing, totals) = packing(withdrawals);
+            assert_eq!(packing.bins.len(), usize::from(totals.opened));
+            assert_eq!(packing.items(), usize::from(totals.items));
+            let withdrawn = packing.withdrawn;
+            assert_eq!(withdrawn > 50, withdrawals);
+            assert_eq!(packing.items() + packing.refused + withdrawn, 600);
+            for (number, Bin { row, items }) in (1..).zip(&packing.bins) {
+                assert_eq!(row.number, number);
+                assert_eq!(usize::from(row.held), items.len());
+                assert_eq!(row.load, items.iter().map(|item| item.size).sum());
+            }
         }
+    }
+
+    #[test]
+    fn refused_withdrawals_are_no_masters() {
+        let mut stream = shelf::StreamBuilder::open(60, 4, 6);
+        stream.shelve(35).shelve(61).withdraw(2).withdraw(4);
+        let packing = Shelved::of(stream.bytes()).unwrap().packing;
+        assert_eq!(packing.elsewhere(), "1 refused");
+        stream.withdraw(1);
+        let packing = Shelved::of(stream.bytes()).unwrap().packing;
+        assert_eq!(packing.elsewhere(), "1 refused, 1 withdrawn");
     }
 }

@@ -119,8 +119,11 @@ fn header(f: &mut fmt::Formatter<'_>, packing: &Packing) -> fmt::Result {
     writeln!(
         f,
         "<text class=\"note\" x=\"{MARGIN}\" y=\"68\">capacity {}, stock {}, m {}; \
-         {used} of {units} units in use, {share} %; {} refused</text>",
-        opening.capacity, opening.stock, opening.m, packing.refused,
+         {used} of {units} units in use, {share} %; {}</text>",
+        opening.capacity,
+        opening.stock,
+        opening.m,
+        packing.elsewhere(),
     )?;
     let mut x = MARGIN;
     for class in 1..=4 {

@@ -1,6 +1,6 @@
 //! Streams as people write them: a text of commands, or hex.
 
-use shelf::{StreamBuilder, MAX_CAPACITY, MAX_M, MAX_STOCK, MIN_M};
+use shelf::{StreamBuilder, MAX_CAPACITY, MAX_COMMANDS, MAX_M, MAX_STOCK, MIN_M};
 
 use crate::format::is_text;
 use crate::source::Source;
@@ -94,7 +94,7 @@ impl<'a> Line<'a> {
 }
 
 /// Writes the stream of a text with one command a line: `open CAPACITY STOCK
-/// M`, then `shelve SIZE` and `count`. `#` starts a comment.
+/// M`, then `shelve SIZE`, `count` and `withdraw NUMBER`. `#` starts a comment.
 pub fn read_text(text: &[u8]) -> Result<Source, BadText> {
     let mut stream: Option<StreamBuilder> = None;
     let mut places = Vec::new();
@@ -117,8 +117,15 @@ pub fn read_text(text: &[u8]) -> Result<Source, BadText> {
                 let [] = line.operands([])?;
                 opened(&mut stream, line.number)?.count();
             }
+            "withdraw" => {
+                let [number] = line.operands(["number"])?;
+                let numbers = (1, MAX_COMMANDS as u64);
+                let number = line.value("number", number, Some(numbers))?;
+                opened(&mut stream, line.number)?.withdraw(number);
+            }
             other => {
-                let message = format!("`{other}` is no command: open, shelve or count");
+                let commands = "open, shelve, count or withdraw";
+                let message = format!("`{other}` is no command: {commands}");
                 return bad(line.number, message);
             }
         }
@@ -190,10 +197,10 @@ mod tests {
 
     #[test]
     fn a_text_becomes_a_stream() {
-        let text = b"# a shelf\n\nopen 60 4 6\r\n  shelve 35 # a feature\ncount";
-        let stream = [1, 0, 0, 0, 60, 0, 4, 6, 2, 0, 0, 0, 35, 3];
+        let text = b"# a shelf\n\nopen 60 4 6\r\n  shelve 35 # a feature\ncount\nwithdraw 258";
+        let stream = [1, 0, 0, 0, 60, 0, 4, 6, 2, 0, 0, 0, 35, 3, 4, 1, 2];
         assert_eq!(bytes(text).unwrap(), stream);
-        let hex = b"01 0000003C 0004 06 # opening\n02 00000023\n\n03\n";
+        let hex = b"01 0000003C 0004 06 # opening\n02 00000023\n\n03\n040102";
         assert_eq!(read_hex(hex).unwrap(), stream);
     }
 
@@ -218,6 +225,7 @@ mod tests {
     fn limits_are_left_to_the_library() {
         assert_eq!(bytes(b"open 0 0 0").unwrap(), [1, 0, 0, 0, 0, 0, 0, 0]);
         assert!(bytes(b"open 4294967295 65535 255").is_ok());
+        assert!(bytes(b"open 60 4 6\nwithdraw 0\nwithdraw 65535").is_ok());
     }
 
     #[test]
@@ -232,6 +240,12 @@ mod tests {
         assert_eq!(fault("open 60 4 6\nshelve -1").0, 2);
         assert_eq!(fault("open 60 4 6\nshelve +1").0, 2);
         assert_eq!(fault("open 60 4 6\nshelve 4294967296").0, 2);
+        assert_eq!(fault("\nwithdraw 1").0, 2);
+        assert_eq!(fault("open 60 4 6\nwithdraw").0, 2);
+        assert_eq!(fault("open 60 4 6\nwithdraw 1 2").0, 2);
+        assert_eq!(fault("open 60 4 6\nwithdraw x").0, 2);
+        let too_large = fault("open 60 4 6\nwithdraw 65536");
+        assert!(too_large.1.ends_with("from 1 to 4096"), "{too_large:?}");
         assert_eq!(fault("open 60 65536 6").0, 1);
         assert_eq!(fault("open 60 4 256").0, 1);
         assert_eq!(bytes(b"open 60 4 6\n\xff").unwrap_err().line, 2);

@@ -9,8 +9,8 @@ use shelf::{
 
 use crate::source::{Source, MAX_STREAM};
 
-/// A long list of refused masters is cut here.
-const MOST_MASTERS: usize = 20;
+/// A long list of refused commands is cut here.
+const MOST_COMMANDS: usize = 20;
 
 /// Why the whole stream was refused.
 pub fn of_stream(source: &Source, refusal: StreamRefusal) -> Vec<String> {
@@ -19,7 +19,7 @@ pub fn of_stream(source: &Source, refusal: StreamRefusal) -> Vec<String> {
         StreamFault::UnknownCommand => {
             let byte = source.bytes[refusal.offset];
             vec![format!(
-                "there is no command {byte:02X}: only 01, 02 and 03"
+                "there is no command {byte:02X}: only 01, 02, 03 and 04"
             )]
         }
         StreamFault::CutShort => {
@@ -84,30 +84,35 @@ pub fn of_length(source: &Source) -> Vec<String> {
     many.into_iter().chain([long]).collect()
 }
 
-/// Which masters of an accepted stream were refused, and why.
-pub fn of_masters(source: &Source, answers: &[(Command, Answer)]) -> Vec<String> {
+/// Which commands of an accepted stream were refused, and why.
+pub fn of_commands(source: &Source, answers: &[(Command, Answer)]) -> Vec<String> {
     let mut sentences = Vec::new();
     let mut more = 0;
     let offsets = shelf::commands(&source.bytes).map(|(offset, _)| offset);
     for (number, (answered, offset)) in (1..).zip(answers.iter().zip(offsets)) {
-        let (Command::Shelve { size }, Answer::Refused(why)) = answered else {
-            continue;
+        let (what, why) = match answered {
+            (Command::Shelve { size }, Answer::Refused(why)) => {
+                (format!("the master of {size} units"), why)
+            }
+            (Command::Withdraw { number }, Answer::Refused(why)) => {
+                (format!("the withdrawal of {number}"), why)
+            }
+            _ => continue,
         };
-        if sentences.len() == MOST_MASTERS {
+        if sentences.len() == MOST_COMMANDS {
             more += 1;
             continue;
         }
         let spot = source.spot(offset);
-        let master = format!("the master of {size} units (command {number})");
         let refusal = why.number();
         sentences.push(format!(
-            "{spot}: {master} was refused with {refusal}: {why}"
+            "{spot}: {what} (command {number}) was refused with {refusal}: {why}"
         ));
     }
     match more {
         0 => {}
-        1 => sentences.push("... and 1 more refused master".to_string()),
-        more => sentences.push(format!("... and {more} more refused masters")),
+        1 => sentences.push("... and 1 more refused command".to_string()),
+        more => sentences.push(format!("... and {more} more refused commands")),
     }
     sentences
 }
@@ -139,11 +144,15 @@ mod tests {
         );
         assert_eq!(
             refused(&[1, 0, 0, 0, 60, 0, 4, 6, 3, 7]),
-            ["byte 9: there is no command 07: only 01, 02 and 03"]
+            ["byte 9: there is no command 07: only 01, 02, 03 and 04"]
         );
         assert_eq!(
             refused(&[1, 0, 0, 0, 60, 0, 4, 6, 2, 0]),
             ["byte 8: the stream ends before the operands of 02 do"]
+        );
+        assert_eq!(
+            refused(&[1, 0, 0, 0, 60, 0, 4, 6, 4, 0]),
+            ["byte 8: the stream ends before the operands of 04 do"]
         );
         assert_eq!(
             refused(&[1, 0, 0, 0, 60, 0, 4, 6, 1]),
@@ -169,20 +178,42 @@ mod tests {
         );
     }
 
+    /// What is said of the refused commands of a text.
+    fn listed(text: &str) -> Vec<String> {
+        let source = read_text(text.as_bytes());
+        let source = source.unwrap_or_else(|_| panic!("a good text"));
+        let shelved = Shelved::of(&source.bytes).unwrap();
+        of_commands(&source, &shelved.answers)
+    }
+
     #[test]
-    fn a_long_list_of_refused_masters_is_cut() {
-        let listed = |masters: usize| {
-            let source =
-                read_text(format!("open 1 1 6{}", "\nshelve 2".repeat(masters)).as_bytes());
-            let source = source.unwrap_or_else(|_| panic!("a good text"));
-            let shelved = Shelved::of(&source.bytes).unwrap();
-            of_masters(&source, &shelved.answers)
+    fn a_refused_command_is_explained() {
+        let text = "open 60 1 6\nshelve 61\n\nshelve 35\nwithdraw 1\nwithdraw 2\nwithdraw 2";
+        assert_eq!(
+            listed(text),
+            [
+                "line 2: the master of 61 units (command 1) was refused with 9: \
+                 size above the capacity",
+                "line 5: the withdrawal of 1 (command 3) was refused with 17: \
+                 no master of that number is on the shelf",
+                "line 7: the withdrawal of 2 (command 5) was refused with 17: \
+                 no master of that number is on the shelf",
+            ]
+        );
+    }
+
+    #[test]
+    fn a_long_list_of_refused_commands_is_cut() {
+        let listed = |times: usize| {
+            let refused = ["\nshelve 2", "\nwithdraw 1"].iter().cycle().take(times);
+            listed(&format!(
+                "open 1 1 6{}",
+                refused.copied().collect::<String>()
+            ))
         };
-        let first = "line 2: the master of 2 units (command 1) was refused with 9: \
-                     size above the capacity";
-        assert_eq!(listed(1), [first]);
+        assert_eq!(listed(1).len(), 1);
         assert_eq!(listed(20).len(), 20);
-        assert_eq!(listed(21)[20], "... and 1 more refused master");
-        assert_eq!(listed(25)[20], "... and 5 more refused masters");
+        assert_eq!(listed(21)[20], "... and 1 more refused command");
+        assert_eq!(listed(25)[20], "... and 5 more refused commands");
     }
 }
