@@ -13,7 +13,7 @@ use Rattle.packing.proofs.Reached.{reached}
 use Rattle.packing.proofs.Numbers.{b2s-are, trace-named, opened-is}
 use Rattle.packing.proofs.Shelved.{lying}
 use Rattle.packing.proofs.Holding.{holds, shown-few}
-use Rattle.packing.proofs.Withdrawals.{withdrawn-exactly, withdrawn-from}
+use Rattle.packing.proofs.Withdrawals.{withdrawn-exactly, withdrawn-if-there, withdrawn-from}
 use Rattle.packing.proofs.Classes.{classes-stay}
 use Rattle.packing.proofs.Counting.{numbers-answered, walk-finds}
 use Rattle.packing.proofs.Running.{take-mapped, drop-mapped, run-prefix, answer-at}
@@ -48,6 +48,7 @@ module _ (o : Opening) (cs : List Command) where
   withdrawals =
       record {
         exactly = withdrawn-exactly o cs;
+        only-check = λ j named a later others here. withdrawn-if-there o cs j named later here a others;
         same-bin = λ j named bin free later others c a. withdrawn-from o cs j named later c bin free others a;
         b2-count = λ j. b2s-are o (take j cs);
         classes-stay = classes-stay o cs;

@@ -10,7 +10,7 @@ use borrow.Author.Tests.{eqb-true, eq-eqb, ne-eqb}
 use lib.Dec.{eqb}
 use lib.ListN.{length, take, drop, getD}
 use Rattle.packing.specs.Prelude.{if_then_else_, any, keep, Opening, Command, Withdraw, Outcome, Placed, Counted, Withdrawn, Refused, NotShelved}
-use Rattle.packing.specs.Refusals.{isRefused, isPlaced}
+use Rattle.packing.specs.Refusals.{isRefused, isPlaced, isWithdrawn}
 use Rattle.packing.specs.Bins.{Bin, Packing, empty, freeOn}
 use Rattle.packing.specs.Placing.{firstFit}
 use Rattle.packing.specs.Withdrawing.{isNamed, holdsNamed, binHolding, without, withdrawal}
@@ -194,6 +194,11 @@ module _ (named : ℕ) where
         go true e = (λ x. clash (cc), λ x. absurd (x (on-shelf cs e)))
         go false e = (λ x h. true≢false (sym (is-on cs h) ∙ e), λ x. refl)
 
+    -- And else it is taken out.
+    out-when : (cs : List Command) → OnShelf (run o cs) named → isWithdrawn (withdrawal o (packing o cs) named) ≡ true
+    unfolding withdrawal
+    out-when cs h = rw (any-shelved o (lying o cs) named, is-on cs h) refl
+
     -- The bin answered.
     bin-when : {p q : Packing} {n : ℕ} {c : Command} {a : Outcome} (bin free : ℕ) → Move o p n c a q → c ≡ Withdraw named → a ≡ Withdrawn bin free
         → (any (holdsNamed named) (p .bins) ≡ true) × (binHolding named p ≡ bin)
@@ -209,6 +214,12 @@ module _ (o : Opening) (cs : List Command) (j named : ℕ) (later : List Command
   withdrawn-exactly =
       let both = exactly-when named o (take j cs) in
       rw (answer-at o j cs (Withdraw named) later here, run-prefix o j cs) (λ e. both .0 (cc), λ h. ap (λ a. a ∷ []) (both .1 h))
+
+  pub withdrawn-if-there : (a : Outcome) (others : List Outcome) → drop j (outcomes o cs) ≡ a ∷ others → OnShelf (take j (run o cs)) named → isWithdrawn a ≡ true
+  withdrawn-if-there a others e h =
+      let told : take 1 (a ∷ others) ≡ withdrawal o (packing o (take j cs)) named ∷ [] = rw e at (answer-at o j cs (Withdraw named) later here) in
+      let same : a ≡ withdrawal o (packing o (take j cs)) named = cc in
+      rw same (out-when named o (take j cs) (rw (run-prefix o j cs) at h))
 
   pub withdrawn-from : (bin free : ℕ) (others : List Outcome) → drop j (outcomes o cs) ≡ Withdrawn bin free ∷ others → ShelvedIn (take j (run o cs)) named bin
   withdrawn-from bin free others e =

@@ -4,7 +4,7 @@ use Rattle.packing.specs.Prelude.{ℕ, suc, _+_, _*_, _≤_, _<_, min, _
 use Rattle.packing.specs.Prelude.{List, [], _∷_, _++_, map, zipWith, flatten, reverse, length, take, drop, List·Memᴰ, total, any, keep, _=?_}
 use Rattle.packing.specs.Prelude.{Opening, SizeClass, A, B1, B2, X, Command, Shelve, Count, Withdraw, Outcome, Placed, Withdrawn, Refused, ItemReason, StockSpent, NotShelved}
 use Rattle.packing.specs.Prelude.{StreamResult, PlanResult}
-use Rattle.packing.specs.Refusals.{isRefused, isPlaced, binsNamed, word, freeUnits, outcomeOf, figures, streamGives, planGives}
+use Rattle.packing.specs.Refusals.{isRefused, isPlaced, isWithdrawn, binsNamed, word, freeUnits, outcomeOf, figures, streamGives, planGives}
 use Rattle.packing.specs.SizeClasses.{sizeClass, countB2}
 use Rattle.packing.specs.Bins.{Item, Bin, Packing, opened, load, itemsOf, kind}
 use Rattle.packing.specs.Placing.{permitted, target, takes}
@@ -112,7 +112,10 @@ module _ (o : Opening) (cs : List Command) where
     -- Refused with 17 exactly when the item named is not on the shelf.
     pub exactly : (j named : ℕ) (later : List Command) → drop j cs ≡ Withdraw named ∷ later
         → (take 1 (drop j (outcomes o cs)) ≡ Refused NotShelved ∷ []) ↔ (OnShelf (take j (run o cs)) named → ⊥)
-    -- Any other answers the very bin that the command it names was answered.
+    -- "It is the only check for 04": an item that is on the shelf is taken out.
+    pub only-check : (j named : ℕ) (a : Outcome) (later : List Command) (others : List Outcome) → drop j cs ≡ Withdraw named ∷ later
+        → drop j (outcomes o cs) ≡ a ∷ others → OnShelf (take j (run o cs)) named → isWithdrawn a ≡ true
+    -- Its answer is the very bin that the command it names was answered.
     pub same-bin : (j named bin free : ℕ) (later : List Command) (others : List Outcome) → drop j cs ≡ Withdraw named ∷ later
         → drop j (outcomes o cs) ≡ Withdrawn bin free ∷ others → ShelvedIn (take j (run o cs)) named bin
     -- "The B2 count never goes back": it is of all items accepted, whatever became of them.
