@@ -108,13 +108,13 @@ module _ {o : Opening} {c : Counters} {size n : ℕ} (a : Aimed o c size n) (num
       free-is = rw chosen-new (omega arith);
     }
 
-    spends : o .stock ≤ c .opened → decision o p it ≡ refusing StockSpent
-    spends l =
+    spends : (bare : ℕ) → 1 ≤ bare → o .stock ≤ c .opened → decision o p it bare ≡ refusing StockSpent
+    spends bare some l =
         let none : spent o p it ≡ true =
         rw (none-at, lt-ltb (opened p) (suc (opened p)) (omega arith), le-leb (o .stock) (opened p) (omega (arith, r .bins))) in
-        decides o p it (refusing StockSpent) (is-spent (a .some) (a .fits) none)
+        decides o p it bare (refusing StockSpent) (is-spent some (a .fits) none)
 
--- What the search says of an item, by what it has for it.
+-- What the search says of an item, by what it has for it, whatever its bare size is.
 pub record Spotted (o : Opening) (shape : Shape) (w : Store) (number size n : ℕ) (s : Spot) : Type 0 where
   pub inside : s .place < shape .places
   pub stock : s .opened ≤ o .stock
@@ -122,7 +122,7 @@ pub record Spotted (o : Opening) (shape : Shape) (w : Store) (number size n : �
 
 abbrev pub Says : Opening → Shape → Store → (number size n : ℕ) → Offer → Type 0
 Says o shape w number size n (Here s) = Spotted o shape w number size n s
-Says o shape w number size n Spent = (p : Packing) → Represents o w p → decision o p (item number size) ≡ refusing StockSpent
+Says o shape w number size n Spent = (p : Packing) → Represents o w p → (bare : ℕ) → 1 ≤ bare → decision o p (item number size) bare ≡ refusing StockSpent
 
 pub says : {o : Opening} {c : Counters} {size n : ℕ} → Aimed o c size n → (number : ℕ) {shape : Shape} {t : List ℕ} {ledger notes : List (List ℕ)}
     → Sound o shape (store t ledger notes c) → Says o shape (store t ledger notes c) number size n (spotFor o shape t (c .opened) n size)
@@ -139,5 +139,5 @@ says {o} {c} {size} {n} a number {shape} {t} {ledger} {notes} sound = go (lowest
         ⊎-elim
         (λ q. let l : c .opened < o .stock = leb-false (o .stock) (c .opened) q in
         rw q (record { inside = omega (arith, sound .stock); stock = omega arith; model = λ p r. is-anew a number (sound .index) r none few l }))
-        (λ q. rw q (λ p r. spends a number (sound .index) r none few (leb-true (o .stock) (c .opened) q)))
+        (λ q. rw q (λ p r bare some. spends a number (sound .index) r none few bare some (leb-true (o .stock) (c .opened) q)))
         (dichotomy (leb (o .stock) (c .opened)))

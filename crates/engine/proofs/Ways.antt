@@ -2,13 +2,13 @@
 use mathlib.Core.Path.{_≡_, refl, sym, ap, _∙_}
 use mathlib.Core.Logic.{_⊎_, inl, inr, ⊎-elim}
 use mathlib.Core.List.{List, [], _∷_}
-use Prim.Native.Nat.{ℕ, _+_, _<_}
+use Prim.Native.Nat.{ℕ, _+_, _≤_, _<_}
 use native.Mathlib.Omega.{arith}
 use lib.ListN.{set}
 use Rattle.packing.specs.declared.{Opening.Opening, Command.Command, ItemReason.ItemReason}
 use Rattle.packing.specs.declared.Outcome.the-variants.{Placed, Refused}
 use Rattle.packing.specs.declared.Command.the-variants.{Shelve}
-use Rattle.packing.specs.Bins.{Packing}
+use Rattle.packing.specs.Bins.{Packing, stored}
 use Rattle.packing.specs.Placing.{into, refusing, binFor, decision, placed}
 use Rattle.packing.specs.Run.{item, told, answerTo, next}
 use Rattle.packing.proofs.Tests.{clash}
@@ -33,9 +33,9 @@ use Rattle.engine.proofs.Aimed.{Aimed, phase-few, a-more, phase-after}
 use Rattle.engine.proofs.Spotted.{IsSpot, Spotted}
 
 -- What is decided of an item is what its command is answered.
-pub refused-so : (o : Opening) (p : Packing) (number size : ℕ) {reason : ItemReason} → decision o p (item number size) ≡ refusing reason
+pub refused-so : (o : Opening) (p : Packing) (number size : ℕ) {reason : ItemReason} → decision o p (item number (stored o size)) size ≡ refusing reason
     → answerTo o p number (Shelve size) ≡ Refused reason
-refused-so o p number size e = ap (told o (placed o p (item number size))) e
+refused-so o p number size e = ap (told o (placed o p (item number (stored o size)))) e
 
 -- Refused: the store stays.
 pub done-refused : {o : Opening} {shape : Shape} {w : Store} {number : ℕ} {command : Command} {reason : ItemReason} → Sound o shape w
@@ -51,19 +51,19 @@ done-refused sound m = record {
 abbrev noting : (notes : List (List ℕ)) (number place size : ℕ) → List (List ℕ)
 noting notes number place size = set notes number ((place + 1) ∷ size ∷ [])
 
--- Placed in a spot that is the model's: the item is entered in the ledger and noted, and then the row is shown.
-module _ {o : Opening} {c : Counters} {size n : ℕ} (a : Aimed o c size n) {s : Spot} {shape : Shape} {t u : List ℕ} {ledger ledger′ notes : List (List ℕ)} {row : List ℕ}
+-- Placed in a spot that is the model's: the item is entered in the ledger and noted, and then the row is shown. The bare size is not 0.
+module _ {o : Opening} {c : Counters} {bare n : ℕ} (some : 1 ≤ bare) (a : Aimed o c (stored o bare) n) {s : Spot} {shape : Shape} {t u : List ℕ} {ledger ledger′ notes : List (List ℕ)} {row : List ℕ}
     (e : Entered ledger (s .place) (home n) (s .free) (aFor n) row ledger′) (d : Shown shape t (s .place) row u) (inside : s .place < places) (number : ℕ) where
-  module _ {p : Packing} (r : Represents o (store t ledger notes c) p) (m : IsSpot o p number size n s) where
-    entry : IsEntry o p (item number size) (s .place) (home n) (s .free) (aFor n)
+  module _ {p : Packing} (r : Represents o (store t ledger notes c) p) (m : IsSpot o p number (stored o bare) n s) where
+    entry : IsEntry o p (item number (stored o bare)) (s .place) (home n) (s .free) (aFor n)
     entry = record { fits = a .fits; place-is = m .place-is; class-is = sym (m .class-is); free-is = m .free-is; a-is = a-more a number }
 
     modelled : number < numbers → binIn (noteAt notes number) ≡ 0
-        → Modelled o number (Shelve size) (Placed (s .place + 1) (s .free)) (store u ledger′ (noting notes number (s .place) size) (accepting n (s .opened) (o .m) c)) p
+        → Modelled o number (Shelve bare) (Placed (s .place + 1) (s .free)) (store u ledger′ (noting notes number (s .place) (stored o bare)) (accepting n (s .opened) (o .m) c)) p
     modelled numbered new =
-        let i = item number size in
-        let goes : decision o p i ≡ into (binFor o p i) =
-        decides o p i _ (goes-in (record { some = a .some; within-capacity = a .fits; not-spent = m .in-stock })) in
+        let i = item number (stored o bare) in
+        let goes : decision o p i bare ≡ into (binFor o p i) =
+        decides o p i bare _ (goes-in (record { some = some; within-capacity = a .fits; not-spent = m .in-stock })) in
         let bin : s .place + 1 ≡ binFor o p i = omega (arith, m .place-is) in
         record {
           answered = rw (goes, free-left o p i, ← m .free-is) (ap (λ bin. Placed bin (s .free)) bin);
@@ -74,7 +74,7 @@ module _ {o : Opening} {c : Counters} {size n : ℕ} (a : Aimed o c size n) {s :
                 b2s = phase-after a r number;
                 items = omega (arith, r .items, held-placed o p i);
                 records = records-placed (r .records) inside entry e;
-                noted = noted-placed o (r .noted) number size (s .place + 1) numbered new bin;
+                noted = noted-placed o (r .noted) number (stored o bare) (s .place + 1) numbered new bin;
               });
         }
 
@@ -84,9 +84,9 @@ module _ {o : Opening} {c : Counters} {size n : ℕ} (a : Aimed o c size n) {s :
         let new : classIn row ≡ home n = ap classIn (e .row-is) in
         ⊎-elim inl (λ same. inr (same ∙ m .class-is ∙ sym new)) (row-before (r .records) inside entry .class)
 
-  pub done-placed : Ready o shape number (store t ledger notes c) → Spotted o shape (store t ledger notes c) number size n s
-      → Done o shape (store t ledger notes c) number (Shelve size) (answering number (Placed (s .place + 1) (s .free)))
-      (store u ledger′ (noting notes number (s .place) size) (accepting n (s .opened) (o .m) c))
+  pub done-placed : Ready o shape number (store t ledger notes c) → Spotted o shape (store t ledger notes c) number (stored o bare) n s
+      → Done o shape (store t ledger notes c) number (Shelve bare) (answering number (Placed (s .place + 1) (s .free)))
+      (store u ledger′ (noting notes number (s .place) (stored o bare)) (accepting n (s .opened) (o .m) c))
   done-placed ready w =
       let sound = ready .sound in
       let then = sound .represents in
@@ -99,7 +99,7 @@ module _ {o : Opening} {c : Counters} {size n : ℕ} (a : Aimed o c size n) {s :
           within = w .stock;
           phase = phase-few a;
           b2 = refl;
-          packing = next o (sound .packing) number (Shelve size);
+          packing = next o (sound .packing) number (Shelve bare);
           represents = modelled then there (ready .numbered) (ready .new) .represents;
         };
         numbered = refl;

@@ -14,9 +14,10 @@ use tournament::ROW_WORDS;
 use tournament::STRIDE;
 use tournament::Shape;
 ghost use mathlib.Core.Path.{_≡_};
-ghost use Prim.Native.Nat.{_≤_, _<_};
+ghost use Prim.Native.Nat.{_-_, _≤_, _<_};
 ghost use Rattle.packing.specs.declared.Command.the-variants.{Shelve};
 ghost use Rattle.packing.specs.declared.Outcome.the-variants.{Refused};
+ghost use Rattle.packing.specs.Bins.{stored};
 ghost use Rattle.index.specs.Trees.{Forest};
 ghost use Rattle.engine.specs.Store.{store, Ready};
 ghost use Rattle.engine.specs.Spots.{spotFor};
@@ -98,7 +99,7 @@ pub fn refuse(number: usize, reason: ItemReason, counters: Counters) -> Answered
     Answered { answer, next }
 }
 
-// An item that a bin can hold: to the first permitted bin with space, else to a new one, else refused.
+// An item that a bin can hold with its trailer: to the first permitted bin with space, else to a new one, else refused. All goes by the stored size.
 fn place_fitting(
     trees: &mut [u32; ROW_WORDS],
     ledger: &mut [[u32; COLUMNS]; BINS],
@@ -111,11 +112,12 @@ fn place_fitting(
 ) -> Answered
     requires ready { ⌜ Ready opening shape number (store (now trees) (now ledger) (now notes) counters) ⌝ }
     requires some { ⌜ 1 ≤ size ⌝ }
-    requires fits { ⌜ size ≤ opening .capacity ⌝ }
+    requires fits { ⌜ stored opening size ≤ opening .capacity ⌝ }
     ensures { λ r. ⌜ Done opening shape (store (now (trees .entry)) (now (ledger .entry)) (now (notes .entry)) counters) number (Shelve size) (r .answer) (store (now (trees .exit)) (now (ledger .exit)) (now (notes .exit)) (r .next)) ⌝ }
 {
-    let tree = aim::tree_for(size, opening.capacity, counters.b2);
-    let offer = find_spot(trees, shape, counters.opened, opening, tree, size);
+    let stored = size + opening.trailer as u32;
+    let tree = aim::tree_for(stored, opening.capacity, counters.b2);
+    let offer = find_spot(trees, shape, counters.opened, opening, tree, stored);
     let Offer::Here(spot) = offer else {
         return refuse(number, ItemReason::StockSpent, counters);
     };
@@ -131,15 +133,28 @@ fn place_fitting(
     };
     let row = ledger::enter(ledger, place, class, free, a);
     let lies = bin as u32;
-    let note = [lies, size];
+    let note = [lies, stored];
     notes[number] = note;
     // Last: how far a store climbs is not foreseen by the processor, and nothing but the next command is to wait for it.
     index::show(trees, shape, place, row);
     Answered { answer, next }
 }
 
-// "Where a master goes": Refined First-Fit, one item. One test tells that its size is neither 0 nor above the capacity; which of the two it is, is
-// asked only where the test fails.
+// The largest bare size that a bin can hold with its trailer; 0 if there is none.
+fn largest(opening: Opening) -> u32
+    ensures { λ r. ⌜ r ≡ opening .capacity - opening .trailer ⌝ }
+{
+    let capacity = opening.capacity;
+    let trailer = opening.trailer as u32;
+    if trailer < capacity {
+        capacity - trailer
+    } else {
+        0
+    }
+}
+
+// "Where a master goes": Refined First-Fit, one item. One test tells that its bare size is not 0 and that its stored size, which may be more than 32 bits
+// hold, is not above the capacity; which of the two it is, is asked only where the test fails.
 pub fn place(
     trees: &mut [u32; ROW_WORDS],
     ledger: &mut [[u32; COLUMNS]; BINS],
@@ -153,7 +168,8 @@ pub fn place(
     requires { ⌜ Ready opening shape number (store (now trees) (now ledger) (now notes) counters) ⌝ }
     ensures { λ r. ⌜ Done opening shape (store (now (trees .entry)) (now (ledger .entry)) (now (notes .entry)) counters) number (Shelve size) (r .answer) (store (now (trees .exit)) (now (ledger .exit)) (now (notes .exit)) (r .next)) ⌝ }
 {
-    if limits::is_within(1, opening.capacity, size) {
+    let most = largest(opening);
+    if limits::is_within(1, most, size) {
         return place_fitting(trees, ledger, notes, shape, counters, opening, number, size);
     }
     if size == 0 {

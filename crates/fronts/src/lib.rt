@@ -4,13 +4,13 @@ use packing::StreamReason;
 use packing::Width;
 use packing::WidthRow;
 ghost use mathlib.Core.Path.{_≡_};
-ghost use Prim.Native.Nat.{_+_, _≤_};
-ghost use lib.ListN.{length, drop};
-ghost use Rattle.packing.specs.Streams.{widths, lookup, commandOf, whole, frontOf, WholeFront};
-ghost use Rattle.fronts.specs.Fronts.{tableWidth, InStream, Operand, means};
+ghost use Prim.Native.Nat.{_≤_};
+ghost use lib.ListN.{length};
+ghost use Rattle.packing.specs.Streams.{isOpening, widths, lookup, whole, frontOf, WholeFront};
+ghost use Rattle.fronts.specs.Fronts.{tableWidth, CommandThere, commandWith, InStream, Operand, means};
 
 // "One table gives each command byte its operand width."
-const ROWS: usize = 4;
+const ROWS: usize = 5;
 
 const WIDTHS: [WidthRow; ROWS] = [
     WidthRow {
@@ -28,6 +28,10 @@ const WIDTHS: [WidthRow; ROWS] = [
     WidthRow {
         opcode: 4,
         width: 2,
+    },
+    WidthRow {
+        opcode: 0x11,
+        width: 9,
     },
 ];
 
@@ -70,6 +74,16 @@ pub fn table_width(opcode: u8) -> usize
     width
 }
 
+// "Either opening may start a stream, once."
+pub fn is_opening(opcode: u8) -> bool
+    ensures { λ r. ⌜ r ≡ isOpening opcode ⌝ }
+{
+    if opcode == 1 {
+        return true;
+    }
+    opcode == 0x11
+}
+
 // An unsigned operand of up to 4 bytes, most significant byte first.
 pub fn operand(s: &[u8], at: usize, width: usize) -> u32
     requires { ⌜ InStream at width (now s) ⌝ }
@@ -85,20 +99,33 @@ pub fn operand(s: &[u8], at: usize, width: usize) -> u32
     n
 }
 
-// The command of an opcode that is in the table and is no opening, whole with its operands.
-fn command_of(opcode: u8, rest: &[u8]) -> Command
-    requires { ⌜ tableWidth opcode + 1 ≤ length (now rest) ⌝ }
-    ensures { λ r. ⌜ r ≡ commandOf opcode (drop 1 (now (rest .entry))) ⌝ }
+// The command of an opcode that is in the table and is no opening, whole with its operands, and its width. (With the opcode written out, the compiler
+// makes a constant of what the table has for it.)
+fn command_of(opcode: u8, rest: &[u8]) -> WholeCommand
+    requires { ⌜ CommandThere opcode (now rest) ⌝ }
+    ensures { λ r. ⌜ r ≡ commandWith opcode (now (rest .entry)) ⌝ }
 {
     if opcode == 2 {
         let size = operand(rest, 1, 4);
-        return Command::Shelve(size);
+        let width = table_width(2);
+        return WholeCommand {
+            command: Command::Shelve(size),
+            width,
+        };
     }
     if opcode == 4 {
         let named = operand(rest, 1, 2);
-        return Command::Withdraw(named);
+        let width = table_width(4);
+        return WholeCommand {
+            command: Command::Withdraw(named),
+            width,
+        };
     }
-    Command::Count
+    let width = table_width(3);
+    WholeCommand {
+        command: Command::Count,
+        width,
+    }
 }
 
 // Reads the command at the front of a stream. At one command the order is 2, 4, 3.
@@ -111,13 +138,15 @@ pub fn read_front(rest: &[u8]) -> Front
         return Front::Faulty(StreamReason::UnknownOpcode);
     };
     let operands = rest.len() - 1;
-    if opcode == 1 {
+    let opens = is_opening(opcode);
+    if opens {
         return Front::Faulty(StreamReason::SecondOpening);
     }
     if operands < width {
         return Front::Faulty(StreamReason::CutShort);
     }
-    let command = command_of(opcode, rest);
+    let whole = command_of(opcode, rest);
+    let command = whole.command;
     Front::Whole(command, width)
 }
 
@@ -127,7 +156,5 @@ pub fn accepted_front(rest: &[u8]) -> WholeCommand
     ensures { λ r. ⌜ whole (r .command) (r .width) ≡ frontOf (now (rest .entry)) ⌝ }
 {
     let opcode = rest[0];
-    let command = command_of(opcode, rest);
-    let width = table_width(opcode);
-    WholeCommand { command, width }
+    command_of(opcode, rest)
 }

@@ -4,12 +4,12 @@ use mathlib.Core.Path.{_≡_, refl, ap, subst}
 use mathlib.Core.Bool.{Bool, true, false, not}
 use mathlib.Core.List.{List, [], _∷_}
 use native.Mathlib.Omega.{arith}
-use borrow.Author.Tests.{eqb-true, ltb-false}
-use lib.Dec.{eqb, ltb}
+use borrow.Author.Tests.{ltb-false}
+use lib.Dec.{ltb}
 use lib.ListN.{length, drop}
 use Rattle.packing.specs.Prelude.{if_then_else_, Opening, Command, StreamReason, NoOpening, CutShort, OutsideLimits, TooFewWords}
 use Rattle.packing.specs.Limits.{openingGood, mostCommands}
-use Rattle.packing.specs.Streams.{openingWidth, openingLength, openingOf, Front, whole, faulty, frontOf, Read, accepted, refused, follow, commands, read, lent}
+use Rattle.packing.specs.Streams.{isOpening, openingWidth, openingLength, openingOf, Front, whole, faulty, frontOf, Read, accepted, refused, follow, commands, read, lent}
 use Rattle.packing.specs.Claims.{WholeStream, AcceptedWhole}
 use Rattle.packing.proofs.Tests.{clash}
 
@@ -50,25 +50,25 @@ module _ (words : ℕ) (o : Opening) (cs : List Command) where
   read-whole : (stream : List ℕ) → length cs ≤ words → read stream ≡ accepted o cs → WholeStream stream words o cs
   unfolding read
   read-whole [] l e = refused-accepted e
-  read-whole (b ∷ s) l e = go (eqb b 1) (ltb (length s) openingWidth) (openingGood (openingOf s)) refl refl refl e
+  read-whole (b ∷ s) l e = go (isOpening b) (ltb (length s) (openingWidth b)) (openingGood (openingOf b s)) refl refl refl e
     where
-      go : (t u v : Bool) → eqb b 1 ≡ t → ltb (length s) openingWidth ≡ u → openingGood (openingOf s) ≡ v
+      go : (t u v : Bool) → isOpening b ≡ t → ltb (length s) (openingWidth b) ≡ u → openingGood (openingOf b s) ≡ v
           → (if not t then refused NoOpening 0 else
           if u then refused CutShort 0 else
           if not v then refused OutsideLimits 0 else
-          commands (openingOf s) mostCommands openingLength (drop openingWidth s)) ≡ accepted o cs
+          commands (openingOf b s) mostCommands (openingLength (b ∷ s)) (drop (openingWidth b) s)) ≡ accepted o cs
           → WholeStream (b ∷ s) words o cs
       go false u v f p q h = refused-accepted h
       go true true v f p q h = refused-accepted h
       go true false false f p q h = refused-accepted h
       go true false true f p q h =
-          let all = all-handed (openingOf s) o mostCommands openingLength (drop openingWidth s) cs h in
+          let all = all-handed (openingOf b s) o mostCommands (openingLength (b ∷ s)) (drop (openingWidth b) s) cs h in
           record {
             opening-good = subst (λ o. openingGood o ≡ true) (all .same-opening) q;
-            opening-first = ap (λ n. n ∷ []) (eqb-true b 1 f);
-            opening-whole = omega (arith, ltb-false (length s) openingWidth p);
+            opening-first = f;
+            opening-whole = omega (arith, ltb-false (length s) (openingWidth b) p);
             opening-is = all .same-opening;
-            commands-whole = subst (λ x. commands x mostCommands openingLength (drop openingWidth s) ≡ accepted o cs) (all .same-opening) h;
+            commands-whole = subst (λ x. commands x mostCommands (openingLength (b ∷ s)) (drop (openingWidth b) s) ≡ accepted o cs) (all .same-opening) h;
             commands-few = all .few;
             words-enough = l;
           }

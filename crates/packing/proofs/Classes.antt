@@ -7,7 +7,7 @@ use native.Mathlib.Omega.{arith}
 use lib.ListN.{length, take, drop, length-map}
 use lib.Seq.{take-at, take-add}
 use Rattle.packing.specs.Prelude.{if_then_else_, Opening, Command, Outcome}
-use Rattle.packing.specs.Bins.{Item, Bin, Packing, empty, opened, add}
+use Rattle.packing.specs.Bins.{Item, Bin, Packing, empty, opened, add, stored}
 use Rattle.packing.specs.Placing.{put, classOf, target, takes, placed}
 use Rattle.packing.specs.Withdrawing.{emptiedOf, without}
 use Rattle.packing.specs.Run.{item, Step, packingFrom, packing}
@@ -39,7 +39,7 @@ module _ (o : Opening) where
   move-grown : {n : ℕ} {p q : Packing} {c : Command} {a : Outcome} → Move o p n c a q → Grown p q
   unfolding placed without
   move-grown {n = n} {p = p} (places {s = s} h) =
-      let i = item n s in
+      let i = item n (stored o s) in
       let put = put-classes (takes o p i) (fresh (classOf (target o p i))) i (p .bins) in
       record { more = put .0; grown = put .1 }
   move-grown {p = p} {q = q} (withdraws {named = named} e) = grown-same p q (map-map (λ b. b .class) (emptiedOf named) (p .bins))

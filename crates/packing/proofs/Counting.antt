@@ -10,7 +10,7 @@ use borrow.Author.Tests.{eq-eqb, ne-eqb}
 use lib.Dec.{eqb}
 use lib.ListN.{length}
 use Rattle.packing.specs.Prelude.{any, greatest, Opening, Command, Entry, Tally}
-use Rattle.packing.specs.Bins.{Item, Bin, Packing, opened, kind}
+use Rattle.packing.specs.Bins.{Item, Bin, Packing, opened, kind, stored}
 use Rattle.packing.specs.Placing.{target, classOf, takes, binFor, placed}
 use Rattle.packing.specs.Run.{item, Step, entriesOf, placements}
 use Rattle.packing.specs.Counting.{stockPlaces, walk}
@@ -35,14 +35,14 @@ answered-within n (e ∷ es) some h = elim (ℕ-discrete (e .bin) n) [
 
 module _ (o : Opening) where
   -- Each bin is opened for an item, which is answered its number.
-  opened-answered : (bin : ℕ) {n : ℕ} {p q : Packing} {ts : List Step} → Trace o n p ts q → opened p < bin → bin ≤ opened q → Answered bin (entriesOf ts)
+  opened-answered : (bin : ℕ) {n : ℕ} {p q : Packing} {ts : List Step} → Trace o n p ts q → opened p < bin → bin ≤ opened q → Answered bin (entriesOf o ts)
   unfolding any flatten
   opened-answered bin ends l m = absurd (omega arith)
-  opened-answered bin (moves {n = n} {p = p} (places {s = s} h) r) l m = elim (ℕ-discrete (binFor o p (item n s)) bin) [
-    | yes q ↦ rw (eq-eqb (binFor o p (item n s)) bin q)
+  opened-answered bin (moves {n = n} {p = p} (places {s = s} h) r) l m = elim (ℕ-discrete (binFor o p (item n (stored o s))) bin) [
+    | yes q ↦ rw (eq-eqb (binFor o p (item n (stored o s))) bin q)
     | no q ↦
-        let further = opened-answered bin r (omega (arith, q, opened-placed o p (item n s), first-few (takes o p (item n s)) (p .bins))) m in
-        rw (ne-eqb (binFor o p (item n s)) bin q) further
+        let further = opened-answered bin r (omega (arith, q, opened-placed o p (item n (stored o s)), first-few (takes o p (item n (stored o s))) (p .bins))) m in
+        rw (ne-eqb (binFor o p (item n (stored o s))) bin q) further
   ]
   opened-answered bin (moves {p = p} (withdraws {named = named} e) r) l m = opened-answered bin r (omega (arith, opened-without o named p)) m
   opened-answered bin (moves counts r) l m = opened-answered bin r l m

@@ -1,5 +1,5 @@
 -- What is decided of an item, by the tests for 8, 9 and 10: their chain is opened here and nowhere else.
-use Prim.Native.Nat.{_≤_, _<_}
+use Prim.Native.Nat.{ℕ, _≤_, _<_}
 use mathlib.Core.Path.{_≡_, refl}
 use mathlib.Core.Bool.{Bool, true, false}
 use native.Mathlib.Omega.{arith}
@@ -9,35 +9,35 @@ use Rattle.packing.specs.Prelude.{if_then_else_, Opening, SizeZero, Abov
 use Rattle.packing.specs.Bins.{Item, Packing}
 use Rattle.packing.specs.Placing.{Decision, into, refusing, binFor, spent, decision}
 
-module _ (o : Opening) (p : Packing) (i : Item) where
+module _ (o : Opening) (p : Packing) (i : Item) (bare : ℕ) where
   -- What is known of an item that is placed.
   pub record IsPlaced : Type 0 where
-    pub some : 1 ≤ i .size
+    pub some : 1 ≤ bare
     pub within-capacity : i .size ≤ o .capacity
     pub not-spent : spent o p i ≡ false
 
   pub data Decided : Decision → Type 0 where
     goes-in : IsPlaced → Decided (into (binFor o p i))
-    is-zero : i .size ≡ 0 → Decided (refusing SizeZero)
-    is-above : 1 ≤ i .size → o .capacity < i .size → Decided (refusing AboveCapacity)
-    is-spent : 1 ≤ i .size → i .size ≤ o .capacity → spent o p i ≡ true → Decided (refusing StockSpent)
+    is-zero : bare ≡ 0 → Decided (refusing SizeZero)
+    is-above : 1 ≤ bare → o .capacity < i .size → Decided (refusing AboveCapacity)
+    is-spent : 1 ≤ bare → i .size ≤ o .capacity → spent o p i ≡ true → Decided (refusing StockSpent)
 
-  pub decided : Decided (decision o p i)
+  pub decided : Decided (decision o p i bare)
   unfolding decision
-  decided = go (eqb (i .size) 0) (ltb (o .capacity) (i .size)) (spent o p i) refl refl refl
+  decided = go (eqb bare 0) (ltb (o .capacity) (i .size)) (spent o p i) refl refl refl
     where
-      go : (a b d : Bool) → eqb (i .size) 0 ≡ a → ltb (o .capacity) (i .size) ≡ b → spent o p i ≡ d
+      go : (a b d : Bool) → eqb bare 0 ≡ a → ltb (o .capacity) (i .size) ≡ b → spent o p i ≡ d
           → Decided (if a then refusing SizeZero else if b then refusing AboveCapacity else if d then refusing StockSpent else into (binFor o p i))
-      go true b d x y z = is-zero (eqb-true (i .size) 0 x)
-      go false true d x y z = is-above (omega (arith, eqb-false (i .size) 0 x)) (ltb-true (o .capacity) (i .size) y)
-      go false false true x y z = is-spent (omega (arith, eqb-false (i .size) 0 x)) (ltb-false (o .capacity) (i .size) y) z
+      go true b d x y z = is-zero (eqb-true bare 0 x)
+      go false true d x y z = is-above (omega (arith, eqb-false bare 0 x)) (ltb-true (o .capacity) (i .size) y)
+      go false false true x y z = is-spent (omega (arith, eqb-false bare 0 x)) (ltb-false (o .capacity) (i .size) y) z
       go false false false x y z =
-          goes-in (record { some = omega (arith, eqb-false (i .size) 0 x); within-capacity = ltb-false (o .capacity) (i .size) y; not-spent = z })
+          goes-in (record { some = omega (arith, eqb-false bare 0 x); within-capacity = ltb-false (o .capacity) (i .size) y; not-spent = z })
 
   -- Each case is decided so.
-  pub decides : (d : Decision) → Decided d → decision o p i ≡ d
+  pub decides : (d : Decision) → Decided d → decision o p i bare ≡ d
   unfolding decision
-  decides d (goes-in h) = rw (ne-eqb (i .size) 0 (λ e. omega (arith, h .some)), le-ltb (o .capacity) (i .size) (h .within-capacity), h .not-spent)
-  decides d (is-zero e) = rw (eq-eqb (i .size) 0 e)
-  decides d (is-above l m) = rw (ne-eqb (i .size) 0 (λ e. omega arith), lt-ltb (o .capacity) (i .size) m)
-  decides d (is-spent l m z) = rw (ne-eqb (i .size) 0 (λ e. omega arith), le-ltb (o .capacity) (i .size) m, z)
+  decides d (goes-in h) = rw (ne-eqb bare 0 (λ e. omega (arith, h .some)), le-ltb (o .capacity) (i .size) (h .within-capacity), h .not-spent)
+  decides d (is-zero e) = rw (eq-eqb bare 0 e)
+  decides d (is-above l m) = rw (ne-eqb bare 0 (λ e. omega arith), lt-ltb (o .capacity) (i .size) m)
+  decides d (is-spent l m z) = rw (ne-eqb bare 0 (λ e. omega arith), le-ltb (o .capacity) (i .size) m, z)

@@ -8,7 +8,7 @@ use borrow.Author.Tests.{leb-true, le-leb}
 use lib.ListN.{length, take, getD}
 use Rattle.packing.specs.Prelude.{total, Opening, Command, Outcome}
 use Rattle.packing.specs.Refusals.{binsNamed, freeUnits}
-use Rattle.packing.specs.Bins.{Item, Bin, Packing, opened, load, itemsOf, freeOn}
+use Rattle.packing.specs.Bins.{Item, Bin, Packing, opened, load, itemsOf, freeOn, stored}
 use Rattle.packing.specs.Placing.{permitted, target, hasSpace, binFor}
 use Rattle.packing.specs.Withdrawing.{binHolding}
 use Rattle.packing.specs.Run.{item, packing}
@@ -54,7 +54,7 @@ module _ (o : Opening) where
     free-is : free ≡ freeOn o bin q
 
   left-by : {p q : Packing} {n : ℕ} {c : Command} {a : Outcome} (bin : ℕ) → Move o p n c a q → binsNamed a ≡ bin ∷ [] → Left q bin (freeUnits a)
-  left-by {p = p} {n = n} bin (places {s = s} h) e = let here : binFor o p (item n s) ≡ bin = cc in record { from-one = omega (arith, here); free-is = cc }
+  left-by {p = p} {n = n} bin (places {s = s} h) e = let here : binFor o p (item n (stored o s)) ≡ bin = cc in record { from-one = omega (arith, here); free-is = cc }
   left-by {p = p} bin (withdraws {named = named} h) e = let here : binHolding named p ≡ bin = cc in record { from-one = omega (arith, here); free-is = cc }
   left-by bin counts e = clash (cc)
   left-by bin (refuses z) e = clash (cc)

@@ -11,7 +11,7 @@ use Rattle.packing.specs.Prelude.{ItemReason, SizeZero, AboveCapacity, S
 use Rattle.packing.specs.Prelude.{StreamReason, NoOpening, UnknownOpcode, CutShort, SecondOpening, OutsideLimits, TooManyCommands, TooFewWords, StreamResult}
 use Rattle.packing.specs.Prelude.{PlanReason, CapacityOutside, TooLong, SizeOutside, BinOutside, Overfull, OtherItems, PlanResult}
 use Rattle.packing.specs.Refusals.{streamNumber, itemNumber, planNumber, word, freeUnits, itemReason, outcomeOf}
-use Rattle.packing.specs.Bins.{Packing, empty, freeOn}
+use Rattle.packing.specs.Bins.{Packing, empty, freeOn, stored}
 use Rattle.packing.specs.Placing.{binFor, placed}
 use Rattle.packing.specs.Withdrawing.{holdsNamed, binHolding, without}
 use Rattle.packing.specs.Run.{item, answerTo, next, runFrom}
@@ -125,8 +125,8 @@ module _ (o : Opening) (p : Packing) (n : ℕ) (h : Reached o p) where
     where
       go : (c : Command) (a : Outcome) (q : Packing) → Move o p n c a q → Told c a
       go c a q (places {s = s} i) =
-          let bin = binFor o p (item n s) in
-          placed-in {bin = bin} {free = freeOn o bin (placed o p (item n s))} (omega (arith, in-stock o p (item n s) (i .not-spent) (h .stock-lasts))) (omega arith)
+          let bin = binFor o p (item n (stored o s)) in
+          placed-in {bin = bin} {free = freeOn o bin (placed o p (item n (stored o s)))} (omega (arith, in-stock o p (item n (stored o s)) (i .not-spent) (h .stock-lasts))) (omega arith)
       go c a q counts = counted (h .stock-lasts)
       go c a q (withdraws {named = named} e) =
           let bin = binHolding named p in

@@ -8,7 +8,7 @@ use native.Mathlib.Omega.{arith}
 use lib.Dec.{eqb, eqb·zero-suc, eqb·suc-zero, eqb·suc-suc}
 use lib.ListN.{length, getD}
 use Rattle.packing.specs.Prelude.{if_then_else_, total, keep, Opening, Command, Outcome}
-use Rattle.packing.specs.Bins.{Item, Bin, Packing, empty, load, itemsOf, add}
+use Rattle.packing.specs.Bins.{Item, Bin, Packing, empty, load, itemsOf, add, stored}
 use Rattle.packing.specs.Placing.{firstFit, put, target, classOf, takes, binFor, placed}
 use Rattle.packing.specs.Withdrawing.{isNamed, emptiedOf, without}
 use Rattle.packing.specs.Run.{item, Shelved, entryOf, shelving, run, packing, stillShelved}
@@ -90,9 +90,9 @@ held-less n named on =
     ∙ sym (keep-reversed others (map (λ s. s .item) (keep here on)) [])
 
 module _ (o : Opening) where
-  holds-move : (n : ℕ) (p q : Packing) (c : Command) (a : Outcome) (on : List Shelved) → Move o p n c a q → Holds p on → Holds q (shelving n c a on)
+  holds-move : (n : ℕ) (p q : Packing) (c : Command) (a : Outcome) (on : List Shelved) → Move o p n c a q → Holds p on → Holds q (shelving o n c a on)
   holds-move n p q c a on (places {s = s} d) h k =
-      placed-items o k p (item n s) ∙ ap (grown (eqb (binFor o p (item n s)) k) (item n s)) (h k) ∙ sym (held-more k (binFor o p (item n s)) (item n s) on)
+      placed-items o k p (item n (stored o s)) ∙ ap (grown (eqb (binFor o p (item n (stored o s))) k) (item n (stored o s))) (h k) ∙ sym (held-more k (binFor o p (item n (stored o s))) (item n (stored o s)) on)
   holds-move n p q c a on (withdraws {named = named} e) h k =
       without-items k named p ∙ ap (keep (λ i. not (isNamed named i))) (h k) ∙ sym (held-less k named on)
   holds-move n p q c a on counts h k = h k

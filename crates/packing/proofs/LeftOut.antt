@@ -20,7 +20,7 @@ use Rattle.packing.proofs.Renumbering.{Marked, same-move}
 
 -- What holds after a command that changes nothing held before it.
 unchanged : (T : Packing → List Shelved → Type 0) {o : Opening} {p q : Packing} {n : ℕ} {c : Command} {a : Outcome} {on : List Shelved} → Move o p n c a q
-    → ((isPlaced a || isWithdrawn a) ≡ true → ⊥) → T q (shelving n c a on) → T p on
+    → ((isPlaced a || isWithdrawn a) ≡ true → ⊥) → T q (shelving o n c a on) → T p on
 unchanged T (places d) z x = absurd (z refl)
 unchanged T (withdraws e) z x = absurd (z refl)
 unchanged T counts z x = x
@@ -52,14 +52,14 @@ module _ (o : Opening) (kept : Step → Bool) (changing : (t : Step) → changes
     record Followed (p : Packing) (s : ℕ) (on : List Shelved) (ts : List Step) (q : Packing) (end : List Shelved) : Type 0 where
       same-outcomes : map (λ t. t .outcome) (runFrom o (renumbered f p) s (map (λ t. renamed f (t .command)) ts)) ≡ map (λ t. t .outcome) ts
       same-packing : packingFrom o (renumbered f p) s (map (λ t. renamed f (t .command)) ts) ≡ renumbered f q
-      same-shelved : shelvedBy (runFrom o (renumbered f p) s (map (λ t. renamed f (t .command)) ts)) (map (renumberedShelved f) on) ≡ map (renumberedShelved f) end
+      same-shelved : shelvedBy o (runFrom o (renumbered f p) s (map (λ t. renamed f (t .command)) ts)) (map (renumberedShelved f) on) ≡ map (renumberedShelved f) end
 
     follow : {n : ℕ} {p q : Packing} {ts : List Step} → Trace o n p ts q → (s : ℕ) (on : List Shelved) → Numbers n s ts → Marked f p on
-        → Followed p s on (keep kept ts) q (shelvedBy ts on)
+        → Followed p s on (keep kept ts) q (shelvedBy o ts on)
     unfolding keep runFrom packingFrom
     follow ends s on h m = record { same-outcomes = refl; same-packing = refl; same-shelved = refl }
     follow {q = q} (moves {n = n} {p = p} {p′ = p′} {c = c} {a = a} {ts = ts} mv r) s on h m =
-        go (kept t) refl (λ x. follow r (suc (f n)) (shelving n c a on) later x)
+        go (kept t) refl (λ x. follow r (suc (f n)) (shelving o n c a on) later x)
       where
         t : Step
         t = record { number = n; command = c; before = p; outcome = a }
@@ -75,10 +75,10 @@ module _ (o : Opening) (kept : Step → Bool) (changing : (t : Step) → changes
             }
 
         Rest : Packing → List Shelved → Type 0
-        Rest y z = Marked f y z → Followed y (suc (f n)) z (keep kept ts) q (shelvedBy ts (shelving n c a on))
+        Rest y z = Marked f y z → Followed y (suc (f n)) z (keep kept ts) q (shelvedBy o ts (shelving o n c a on))
 
-        go : (b : Bool) → kept t ≡ b → Rest p′ (shelving n c a on)
-            → Followed p s on (if b then t ∷ keep kept ts else keep kept ts) q (shelvedBy ts (shelving n c a on))
+        go : (b : Bool) → kept t ≡ b → Rest p′ (shelving o n c a on)
+            → Followed p s on (if b then t ∷ keep kept ts else keep kept ts) q (shelvedBy o ts (shelving o n c a on))
         go true e x =
             let first : s ≡ f n = omega (arith, rw e at number) in
             let same = same-move f o p n on m (λ k l. omega (arith, h .before k l)) mv (accepted t e) in

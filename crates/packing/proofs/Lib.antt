@@ -24,6 +24,7 @@ pub mod Running
 pub mod Renumbering
 pub mod LeftOut
 pub mod Given
+pub mod Storing
 -- the stream
 pub mod Openings
 pub mod Fronts
@@ -31,4 +32,5 @@ pub mod Accepted
 pub mod Walking
 pub mod Answering
 pub mod Offsets
+pub mod Alike
 pub mod Theorems

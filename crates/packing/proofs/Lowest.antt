@@ -6,7 +6,7 @@ use mathlib.Core.List.{List, [], _∷_, List·Memᴰ, List·Memᴰ·not-nil}
 use native.Mathlib.Omega.{arith}
 use lib.ListN.{take, drop}
 use Rattle.packing.specs.Prelude.{if_then_else_, Opening, Command, Shelve, Outcome, Placed}
-use Rattle.packing.specs.Bins.{Bin, Packing}
+use Rattle.packing.specs.Bins.{Bin, Packing, stored}
 use Rattle.packing.specs.Placing.{firstFit, takes, binFor}
 use Rattle.packing.specs.Run.{item}
 use Rattle.packing.specs.Claims.{Lowest, LowestPermitted}
@@ -36,17 +36,17 @@ stops-there test (a ∷ bs) b later e = go (test a) refl e (stops-there test bs 
     go false q e r = r e
 
 lowest-by : {o : Opening} {p q : Packing} {n : ℕ} {c : Command} {a : Outcome} (size bin free : ℕ) → Move o p n c a q → c ≡ Shelve size → a ≡ Placed bin free
-    → Lowest o p (item n size) bin
+    → Lowest o p (item n (stored o size)) bin
 lowest-by {o = o} {p = p} {n = n} size bin free (places {s = s} h) e f =
     let same : s ≡ size = cc in
-    let here : binFor o p (item n s) ≡ bin = cc in
+    let here : binFor o p (item n (stored o s)) ≡ bin = cc in
     rw (← here, ← same)
     (record {
-      lower = firstFit (takes o p (item n s)) (p .bins);
+      lower = firstFit (takes o p (item n (stored o s))) (p .bins);
       numbered = refl;
-      at-most-new = omega (arith, first-few (takes o p (item n s)) (p .bins));
-      none-lower = none-before (takes o p (item n s)) (p .bins);
-      takes-it = stops-there (takes o p (item n s)) (p .bins);
+      at-most-new = omega (arith, first-few (takes o p (item n (stored o s))) (p .bins));
+      none-lower = none-before (takes o p (item n (stored o s))) (p .bins);
+      takes-it = stops-there (takes o p (item n (stored o s))) (p .bins);
     })
 lowest-by size bin free (withdraws h) e f = clash (cc)
 lowest-by size bin free counts e f = clash (cc)

@@ -7,7 +7,7 @@ use native.Mathlib.Omega.{arith}
 use lib.ListN.{length}
 use Rattle.packing.specs.Prelude.{if_then_else_, any, Opening, Command, Shelve, Count, Withdraw, Outcome, Placed, Counted, Withdrawn, Refused, ItemReason, NotShelved}
 use Rattle.packing.specs.Refusals.{isRefused}
-use Rattle.packing.specs.Bins.{Packing, empty, opened, freeOn}
+use Rattle.packing.specs.Bins.{Item, Packing, empty, opened, freeOn, stored}
 use Rattle.packing.specs.Placing.{Decision, binFor, decision, placed}
 use Rattle.packing.specs.Withdrawing.{holdsNamed, binHolding, without, withdrawal}
 use Rattle.packing.specs.Run.{item, told, Step, Shelved, shelving, shelvedBy, answerTo, next, runFrom, packingFrom, run, packing}
@@ -24,8 +24,8 @@ withdraw-apart e = clash (cc)
 module _ (o : Opening) where
   -- From the packing p to the next by a command of number n that comes to this: it places its item; it takes one out; or all stays.
   pub data Move (p : Packing) (n : ℕ) : Command → Outcome → Packing → Type 0 where
-    places : {s : ℕ} → IsPlaced o p (item n s)
-        → Move p n (Shelve s) (Placed (binFor o p (item n s)) (freeOn o (binFor o p (item n s)) (placed o p (item n s)))) (placed o p (item n s))
+    places : {s : ℕ} → IsPlaced o p (item n (stored o s)) s
+        → Move p n (Shelve s) (Placed (binFor o p (item n (stored o s))) (freeOn o (binFor o p (item n (stored o s))) (placed o p (item n (stored o s))))) (placed o p (item n (stored o s)))
     withdraws : {named : ℕ} → any (holdsNamed named) (p .bins) ≡ true
         → Move p n (Withdraw named) (Withdrawn (binHolding named p) (freeOn o (binHolding named p) (without named p))) (without named p)
     counts : Move p n Count (Counted (opened p)) p
@@ -33,10 +33,12 @@ module _ (o : Opening) where
 
   module _ (p : Packing) (n : ℕ) where
     move-shelve : (s : ℕ) → Move p n (Shelve s) (answerTo o p n (Shelve s)) (next o p n (Shelve s))
-    move-shelve s = go (decision o p (item n s)) (decided o p (item n s))
+    move-shelve s = go (decision o p i s) (decided o p i s)
       where
-        go : (d : Decision) → Decided o p (item n s) d
-            → Move p n (Shelve s) (told o (placed o p (item n s)) d) (if isRefused (told o (placed o p (item n s)) d) then p else placed o p (item n s))
+        i : Item
+        i = item n (stored o s)
+
+        go : (d : Decision) → Decided o p i s d → Move p n (Shelve s) (told o (placed o p i) d) (if isRefused (told o (placed o p i) d) then p else placed o p i)
         go d (goes-in h) = places h
         go d (is-zero e) = refuses shelve-apart
         go d (is-above l m) = refuses shelve-apart
@@ -75,7 +77,7 @@ module _ (o : Opening) where
 
   -- What every move keeps of a packing, the number of the next command and the items on the shelf, every trace keeps.
   pub carried : (Kept : ℕ → Packing → List Shelved → Type 0)
-      → ((n : ℕ) (p q : Packing) (c : Command) (a : Outcome) (on : List Shelved) → Move p n c a q → Kept n p on → Kept (suc n) q (shelving n c a on))
-      → {n : ℕ} {p q : Packing} {ts : List Step} → Trace n p ts q → (e : ℕ) → e ≡ length ts + n → (on : List Shelved) → Kept n p on → Kept e q (shelvedBy ts on)
+      → ((n : ℕ) (p q : Packing) (c : Command) (a : Outcome) (on : List Shelved) → Move p n c a q → Kept n p on → Kept (suc n) q (shelving o n c a on))
+      → {n : ℕ} {p q : Packing} {ts : List Step} → Trace n p ts q → (e : ℕ) → e ≡ length ts + n → (on : List Shelved) → Kept n p on → Kept e q (shelvedBy o ts on)
   carried Kept keeps {n = n} {p = p} ends e same on h = let here : n ≡ e = omega arith in subst (λ k. Kept k p on) here h
   carried Kept keeps (moves m r) e same on h = carried Kept keeps r e (omega arith) _ (keeps _ _ _ _ _ on m h)

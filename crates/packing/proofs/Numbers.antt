@@ -8,7 +8,7 @@ use lib.ListN.{length, length-append}
 use Rattle.packing.specs.Prelude.{total, greatest, Opening, Command, Outcome, Placed, Counted, Withdrawn, Refused, Entry}
 use Rattle.packing.specs.Refusals.{binsNamed}
 use Rattle.packing.specs.SizeClasses.{sizeClass, countB2}
-use Rattle.packing.specs.Bins.{Packing, opened}
+use Rattle.packing.specs.Bins.{Packing, opened, stored}
 use Rattle.packing.specs.Placing.{placed}
 use Rattle.packing.specs.Withdrawing.{isNamed, holdsNamed, without}
 use Rattle.packing.specs.Run.{item, Step, Shelved, shelving, shelvedBy, entriesOf, sizeOf, nameOf, packing}
@@ -20,17 +20,17 @@ use Rattle.packing.proofs.Reached.{first-any, opened-placed, opened-wit
 
 module _ (o : Opening) where
   -- The number of bins is the greatest number answered to an item, where that is more than there were.
-  pub trace-opened : {n : ℕ} {p q : Packing} {ts : List Step} → Trace o n p ts q → opened q ≡ max (opened p) (greatest (map (λ e. e .bin) (entriesOf ts)))
+  pub trace-opened : {n : ℕ} {p q : Packing} {ts : List Step} → Trace o n p ts q → opened q ≡ max (opened p) (greatest (map (λ e. e .bin) (entriesOf o ts)))
   unfolding greatest flatten
   trace-opened ends = omega arith
-  trace-opened {n = n} (moves {p = p} (places {s = s} h) r) = omega (arith, trace-opened r, opened-placed o p (item n s))
+  trace-opened {n = n} (moves {p = p} (places {s = s} h) r) = omega (arith, trace-opened r, opened-placed o p (item n (stored o s)))
   trace-opened (moves {p = p} (withdraws {named = named} e) r) = omega (arith, trace-opened r, opened-without o named p)
   trace-opened (moves counts r) = trace-opened r
   trace-opened (moves (refuses z) r) = trace-opened r
 
   -- The B2 items are counted as they are accepted, and no withdrawal uncounts one.
   trace-b2s : {n : ℕ} {p q : Packing} {ts : List Step} → Trace o n p ts q
-      → q .b2s ≡ p .b2s + total (map (λ s. countB2 (sizeClass (o .capacity) s)) (map (λ e. e .size) (entriesOf ts)))
+      → q .b2s ≡ p .b2s + total (map (λ s. countB2 (sizeClass (o .capacity) s)) (map (λ e. e .size) (entriesOf o ts)))
   unfolding total flatten placed without
   trace-b2s ends = omega arith
   trace-b2s (moves (places h) r) = omega (arith, trace-b2s r)
@@ -44,7 +44,7 @@ module _ (o : Opening) where
   -- Every number that a move answers is that of a bin which then is opened.
   move-named : {n : ℕ} {p q : Packing} {c : Command} {a : Outcome} → Move o p n c a q → (bin : ℕ) → List·Memᴰ bin (binsNamed a) → (1 ≤ bin) × (bin ≤ opened q)
   move-named {n = n} {p = p} (places {s = s} h) =
-      each-cons (λ bin. (1 ≤ bin) × (bin ≤ _)) (omega (arith, opened-placed o p (item n s))) (λ bin m. absurd (List·Memᴰ·not-nil m))
+      each-cons (λ bin. (1 ≤ bin) × (bin ≤ _)) (omega (arith, opened-placed o p (item n (stored o s)))) (λ bin m. absurd (List·Memᴰ·not-nil m))
   move-named {p = p} (withdraws {named = named} e) =
       each-cons (λ bin. (1 ≤ bin) × (bin ≤ _)) (omega (arith, opened-without o named p, first-any (holdsNamed named) (p .bins) e)) (λ bin m. absurd (List·Memᴰ·not-nil m))
   move-named counts = λ bin m. absurd (List·Memᴰ·not-nil m)
@@ -59,7 +59,7 @@ module _ (o : Opening) where
       each-append (λ bin. (1 ≤ bin) × (bin ≤ opened q)) (binsNamed a) _ (λ bin x. omega (arith, move-named m bin x, trace-opened r)) (trace-named r)
 
   -- An item is answered no number below 1.
-  pub trace-entries : {n : ℕ} {p q : Packing} {ts : List Step} → Trace o n p ts q → (e : Entry) → List·Memᴰ e (entriesOf ts) → 1 ≤ e .bin
+  pub trace-entries : {n : ℕ} {p q : Packing} {ts : List Step} → Trace o n p ts q → (e : Entry) → List·Memᴰ e (entriesOf o ts) → 1 ≤ e .bin
   unfolding flatten
   trace-entries ends = λ e m. absurd (List·Memᴰ·not-nil m)
   trace-entries (moves (places h) r) = each-cons (λ e. 1 ≤ e .bin) (omega arith) (trace-entries r)
@@ -72,12 +72,12 @@ pub opened-is : (o : Opening) (cs : List Command) → opened (packing o cs) ≡ 
 opened-is o cs = omega (arith, trace-opened o (trace o cs))
 
 -- No more items are on the shelf than were before, and than there are steps.
-pub shelved-steps : (ts : List Step) (on : List Shelved) → length (shelvedBy ts on) ≤ length ts + length on
-shelved-steps [] on = omega arith
-shelved-steps (t ∷ ts) on = omega (arith, shelved-steps ts (shelving (t .number) (t .command) (t .outcome) on), go (t .outcome))
+pub shelved-steps : (o : Opening) (ts : List Step) (on : List Shelved) → length (shelvedBy o ts on) ≤ length ts + length on
+shelved-steps o [] on = omega arith
+shelved-steps o (t ∷ ts) on = omega (arith, shelved-steps o ts (shelving o (t .number) (t .command) (t .outcome) on), go (t .outcome))
   where
-    go : (a : Outcome) → length (shelving (t .number) (t .command) a on) ≤ suc (length on)
-    go (Placed bin free) = omega (arith, length-append on (record { item = item (t .number) (sizeOf (t .command)); bin = bin } ∷ []))
+    go : (a : Outcome) → length (shelving o (t .number) (t .command) a on) ≤ suc (length on)
+    go (Placed bin free) = omega (arith, length-append on (record { item = item (t .number) (stored o (sizeOf (t .command))); bin = bin } ∷ []))
     go (Counted n) = omega arith
     go (Withdrawn bin free) = omega (arith, keep-few (λ s. not (isNamed (nameOf (t .command)) (s .item))) on)
     go (Refused reason) = omega arith

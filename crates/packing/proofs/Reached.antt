@@ -8,7 +8,7 @@ use borrow.Author.Tests.{leb-true, leb-false, ltb-false}
 use lib.Dec.{eqb, ltb, leb}
 use lib.ListN.{length, length-map}
 use Rattle.packing.specs.Prelude.{if_then_else_, total, any, Opening, SizeClass, A, B1, B2, X, Command, Outcome}
-use Rattle.packing.specs.Bins.{Item, Bin, Packing, empty, opened, load, add, kind, holdsA}
+use Rattle.packing.specs.Bins.{Item, Bin, Packing, empty, opened, load, add, kind, holdsA, stored}
 use Rattle.packing.specs.Placing.{toClass, besideA, classOf, firstFit, targetOf, permitted, target, hasSpace, takes, binFor, spent, placed}
 use Rattle.packing.specs.Withdrawing.{isNamed, emptiedOf, without}
 use Rattle.packing.specs.Run.{item, Step, packing}
@@ -147,7 +147,7 @@ module _ (o : Opening) where
 
   pub reached-move : {p q : Packing} {n : ℕ} {c : Command} {a : Outcome} → Move o p n c a q → Reached p → Reached q
   reached-move {p = p} {n = n} (places {s = s} d) h =
-      let i = item n s in
+      let i = item n (stored o s) in
       record {
         bins-sound = sound-placed p i (d .within-capacity) (h .bins-sound);
         stock-lasts = omega (arith, opened-placed p i, in-stock p i (d .not-spent) (h .stock-lasts));

@@ -14,7 +14,7 @@ use lib.ListN.{length-map}
 use Rattle.packing.specs.Prelude.{total, any, Opening, Command, Outcome}
 use Rattle.packing.specs.Refusals.{isRefused}
 use Rattle.packing.specs.SizeClasses.{isA}
-use Rattle.packing.specs.Bins.{Item, Bin, Packing, load, add, kind, freeOn}
+use Rattle.packing.specs.Bins.{Item, Bin, Packing, load, add, kind, freeOn, stored}
 use Rattle.packing.specs.Placing.{Target, toClass, besideA, classOf, firstFit, put, permitted, target, takes, placed}
 use Rattle.packing.specs.Withdrawing.{isNamed, holdsNamed, emptiedOf, without, withdrawal}
 use Rattle.packing.specs.Run.{item, Shelved, shelving, answerTo, next}
@@ -101,18 +101,18 @@ module _ (f : ℕ → ℕ) where
         pub record Same (c : Command) (a : Outcome) (q : Packing) : Type 0 where
           pub answer : answerTo o (renumbered f p) (f n) (renamed f c) ≡ a
           pub after : next o (renumbered f p) (f n) (renamed f c) ≡ renumbered f q
-          pub shelved : shelving (f n) (renamed f c) a (map (renumberedShelved f) on) ≡ map (renumberedShelved f) (shelving n c a on)
-          pub marked : Marked q (shelving n c a on)
+          pub shelved : shelving o (f n) (renamed f c) a (map (renumberedShelved f) on) ≡ map (renumberedShelved f) (shelving o n c a on)
+          pub marked : Marked q (shelving o n c a on)
 
         pub same-move : Marked p on → Marks n → {c : Command} {a : Outcome} {q : Packing} → Move o p n c a q → not (isRefused a) ≡ true → Same c a q
         unfolding placed without withdrawal
         same-move h k (places {s = s} d) r =
-            let i = item n s in
+            let i = item n (stored o s) in
             let new = fresh (classOf (target o p i)) in
             let bins = bins-placing i new (p .bins) in
             let opened = length-map (p .bins) (renumberedBin f) in
-            let again : IsPlaced o (renumbered f p) (renumber f i) = record { some = d .some; within-capacity = d .within-capacity; not-spent = cc (d .not-spent) } in
-            let decided = decides o (renumbered f p) (renumber f i) _ (goes-in again) in
+            let again : IsPlaced o (renumbered f p) (renumber f i) s = record { some = d .some; within-capacity = d .within-capacity; not-spent = cc (d .not-spent) } in
+            let decided = decides o (renumbered f p) (renumber f i) s _ (goes-in again) in
             let free = free-renumbered (firstFit (takes o p i) (p .bins)) (placed o p i .bins) in
             record {
               answer = cc;

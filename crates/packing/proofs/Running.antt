@@ -41,7 +41,7 @@ module _ (o : Opening) where
 
   -- So no more items are shelved than commands are sent.
   pub shelved-few : (cs : List Command) → length (stillShelved o cs) ≤ length cs
-  shelved-few cs = omega (arith, shelved-steps (run o cs) [], run-length cs empty 1)
+  shelved-few cs = omega (arith, shelved-steps o (run o cs) [], run-length cs empty 1)
 
   run-append : (cs ds : List Command) (p : Packing) (n e : ℕ) → e ≡ length cs + n → runFrom o p n (cs ++ ds) ≡ runFrom o p n cs ++ runFrom o (packingFrom o p n cs) e ds
   unfolding runFrom packingFrom

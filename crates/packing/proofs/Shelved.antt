@@ -10,7 +10,7 @@ use lib.Dec.{ltb}
 use lib.ListN.{length}
 use Rattle.packing.specs.Prelude.{if_then_else_, total, any, Opening, Command, Outcome, Placed, Counted, Withdrawn, Refused}
 use Rattle.packing.specs.Refusals.{isWithdrawn}
-use Rattle.packing.specs.Bins.{Item, Packing, empty, opened}
+use Rattle.packing.specs.Bins.{Item, Packing, empty, opened, stored}
 use Rattle.packing.specs.Placing.{target, classOf, takes, binFor, placed}
 use Rattle.packing.specs.Withdrawing.{isNamed, holdsNamed, without}
 use Rattle.packing.specs.Run.{item, Step, Shelved, shelving, entryOf, shelvedBy, placement, entriesOf, run, packing, outcomes, stillShelved}
@@ -47,10 +47,10 @@ module _ (o : Opening) where
         earlier = omega (arith, lies .earlier);
       }
 
-  pub lying-move : (n : ℕ) (p q : Packing) (c : Command) (a : Outcome) (on : List Shelved) → Move o p n c a q → Lying n p on → Lying (suc n) q (shelving n c a on)
+  pub lying-move : (n : ℕ) (p q : Packing) (c : Command) (a : Outcome) (on : List Shelved) → Move o p n c a q → Lying n p on → Lying (suc n) q (shelving o n c a on)
   unfolding placed without total
   lying-move n p q c a on (places {s = s} d) h =
-      let i = item n s in
+      let i = item n (stored o s) in
       let more = opened-placed o p i in
       record {
         weighs = λ w.
@@ -62,7 +62,7 @@ module _ (o : Opening) where
             );
         each =
             each-append (Lies (suc n) q) on _ (still-there q (omega arith) (h .each))
-            (each-cons (Lies (suc n) q) (record { some = d .some; within-capacity = d .within-capacity; from-one = omega arith; to-opened = omega arith; earlier = omega arith })
+            (each-cons (Lies (suc n) q) (record { some = omega (arith, d .some); within-capacity = d .within-capacity; from-one = omega arith; to-opened = omega arith; earlier = omega arith })
             (λ s m. absurd (List·Memᴰ·not-nil m)));
       }
   lying-move n p q c a on (withdraws {named = named} e) h =
@@ -79,7 +79,7 @@ module _ (o : Opening) where
   unfolding total
   lying-start = record { weighs = λ w. refl; each = λ s m. absurd (List·Memᴰ·not-nil m) }
 
-  pub trace-lying : {q : Packing} {ts : List Step} → Trace o 1 empty ts q → Lying (length ts + 1) q (shelvedBy ts [])
+  pub trace-lying : {q : Packing} {ts : List Step} → Trace o 1 empty ts q → Lying (length ts + 1) q (shelvedBy o ts [])
   trace-lying {ts = ts} r = carried o Lying lying-move r (length ts + 1) refl [] lying-start
 
   pub lying : (cs : List Command) → Lying (length (run o cs) + 1) (packing o cs) (stillShelved o cs)
@@ -95,19 +95,19 @@ module _ (o : Opening) where
       any-bin-weighs (isNamed named) (p .bins) ∙ ap (ltb 0) (h .weighs (oneFor (isNamed named))) ∙ sym (any-weighs (λ s. isNamed named (s .item)) on)
 
 -- Where no step takes an item out, those still shelved are those accepted.
-pub entries-shelved : (ts : List Step) (on : List Shelved) → any isWithdrawn (map (λ t. t .outcome) ts) ≡ false
-    → map entryOf (shelvedBy ts on) ≡ map entryOf on ++ entriesOf ts
+pub entries-shelved : (o : Opening) (ts : List Step) (on : List Shelved) → any isWithdrawn (map (λ t. t .outcome) ts) ≡ false
+    → map entryOf (shelvedBy o ts on) ≡ map entryOf on ++ entriesOf o ts
 unfolding any flatten
-entries-shelved [] on e = sym (append-nil _)
-entries-shelved (t ∷ ts) on e = go (t .outcome) e (entries-shelved ts)
+entries-shelved o [] on e = sym (append-nil _)
+entries-shelved o (t ∷ ts) on e = go (t .outcome) e (entries-shelved o ts)
   where
     go : (a : Outcome) → (isWithdrawn a || any isWithdrawn (map (λ t. t .outcome) ts)) ≡ false
-        → ((on : List Shelved) → any isWithdrawn (map (λ t. t .outcome) ts) ≡ false → map entryOf (shelvedBy ts on) ≡ map entryOf on ++ entriesOf ts)
-        → map entryOf (shelvedBy ts (shelving (t .number) (t .command) a on)) ≡ map entryOf on ++ (placement (t .command) a ++ entriesOf ts)
-    go (Placed bin free) e r = r _ e ∙ ap (λ l. l ++ entriesOf ts) (map-append entryOf on _) ∙ append-assoc (map entryOf on) _ (entriesOf ts)
+        → ((on : List Shelved) → any isWithdrawn (map (λ t. t .outcome) ts) ≡ false → map entryOf (shelvedBy o ts on) ≡ map entryOf on ++ entriesOf o ts)
+        → map entryOf (shelvedBy o ts (shelving o (t .number) (t .command) a on)) ≡ map entryOf on ++ (placement o (t .command) a ++ entriesOf o ts)
+    go (Placed bin free) e r = r _ e ∙ ap (λ l. l ++ entriesOf o ts) (map-append entryOf on _) ∙ append-assoc (map entryOf on) _ (entriesOf o ts)
     go (Counted n) e r = r on e
     go (Withdrawn bin free) e r = absurd (true≢false e)
     go (Refused reason) e r = r on e
 
 pub one-list : (o : Opening) (cs : List Command) → OneList o cs
-one-list o cs e = entries-shelved (run o cs) [] (not-true (any isWithdrawn (outcomes o cs)) e)
+one-list o cs e = entries-shelved o (run o cs) [] (not-true (any isWithdrawn (outcomes o cs)) e)

@@ -1,4 +1,4 @@
--- Refusal 10: exactly when no permitted bin has space and the whole stock is opened.
+-- Refusals 8, 9 and 10 of an item, each exactly under its condition: 10 when no permitted bin has space and the whole stock is opened.
 use Prim.Native.Nat.{ℕ, suc, _+_, _≤_, _<_}
 use mathlib.Core.Path.{_≡_, refl, ap}
 use mathlib.Core.Bool.{Bool, true, false, _&&_, false≢true}
@@ -7,11 +7,11 @@ use native.Mathlib.Omega.{arith}
 use borrow.Author.Tests.{ltb-true, leb-true, leb-false, lt-ltb, le-leb, lt-leb}
 use lib.Dec.{ltb, leb}
 use lib.ListN.{length}
-use Rattle.packing.specs.Prelude.{if_then_else_, Opening, Refused, StockSpent}
-use Rattle.packing.specs.Bins.{Item, Bin, Packing, opened, load}
+use Rattle.packing.specs.Prelude.{if_then_else_, Opening, Refused, SizeZero, AboveCapacity, StockSpent}
+use Rattle.packing.specs.Bins.{Item, Bin, Packing, opened, load, stored}
 use Rattle.packing.specs.Placing.{Decision, firstFit, permitted, target, hasSpace, takes, binFor, decision, placed}
 use Rattle.packing.specs.Run.{item, told}
-use Rattle.packing.specs.Claims.{Spent, SpentExactly}
+use Rattle.packing.specs.Claims.{Spent, RefusedExactly}
 use Rattle.packing.proofs.Tests.{clash, both-true, each-cons}
 use Rattle.packing.proofs.Decided.{Decided, goes-in, is-zero, is-above, is-spent, decided, decides}
 
@@ -47,7 +47,20 @@ module _ (o : Opening) (p : Packing) (i : Item) where
       go true e = lt-leb (load b + i .size) (o .capacity) (h e)
       go false e = refl
 
-  spent-only : (d : Decision) → Decided o p i d → told o (placed o p i) d ≡ Refused StockSpent → Spent o p i
+module _ (o : Opening) (p : Packing) (i : Item) (bare : ℕ) where
+  zero-only : (d : Decision) → Decided o p i bare d → told o (placed o p i) d ≡ Refused SizeZero → bare ≡ 0
+  zero-only d (goes-in h) e = clash (cc)
+  zero-only d (is-zero h) e = h
+  zero-only d (is-above l m) e = clash (cc)
+  zero-only d (is-spent l m z) e = clash (cc)
+
+  above-only : (d : Decision) → Decided o p i bare d → told o (placed o p i) d ≡ Refused AboveCapacity → (1 ≤ bare) × (o .capacity < i .size)
+  above-only d (goes-in h) e = clash (cc)
+  above-only d (is-zero h) e = clash (cc)
+  above-only d (is-above l m) e = (l, m)
+  above-only d (is-spent l m z) e = clash (cc)
+
+  spent-only : (d : Decision) → Decided o p i bare d → told o (placed o p i) d ≡ Refused StockSpent → Spent o p i bare
   spent-only d (goes-in h) e = clash (cc)
   spent-only d (is-zero h) e = clash (cc)
   spent-only d (is-above l m) e = clash (cc)
@@ -57,16 +70,24 @@ module _ (o : Opening) (p : Packing) (i : Item) where
       record {
         some = l;
         within-capacity = m;
-        no-space = λ b k. full b (none-takes (takes o p i) (p .bins) (omega arith) b k);
+        no-space = λ b k. full o p i b (none-takes (takes o p i) (p .bins) (omega arith) b k);
         all-opened = leb-true (o .stock) (opened p) (both .1);
       }
 
-  spent-then : Spent o p i → told o (placed o p i) (decision o p i) ≡ Refused StockSpent
+  spent-then : Spent o p i bare → told o (placed o p i) (decision o p i bare) ≡ Refused StockSpent
   spent-then h =
-      let all = passes-all (takes o p i) (p .bins) (λ b m. refuses b (h .no-space b m)) in
+      let all = passes-all (takes o p i) (p .bins) (λ b m. refuses o p i b (h .no-space b m)) in
       ap (told o (placed o p i))
-      (decides o p i _
+      (decides o p i bare _
       (is-spent (h .some) (h .within-capacity) (rw (lt-ltb (opened p) (binFor o p i) (omega arith), le-leb (o .stock) (opened p) (h .all-opened)))))
 
-pub spent-exactly : (o : Opening) (p : Packing) (n s : ℕ) → SpentExactly o p n s
-spent-exactly o p n s = (spent-only o p (item n s) (decision o p (item n s)) (decided o p (item n s)), spent-then o p (item n s))
+pub refused-exactly : (o : Opening) (p : Packing) (n s : ℕ) → RefusedExactly o p n s
+refused-exactly o p n s =
+    let i = item n (stored o s) in
+    let d = decision o p i s in
+    let view = decided o p i s in
+    record {
+      zero = (zero-only o p i s d view, λ e. ap (told o (placed o p i)) (decides o p i s _ (is-zero e)));
+      above = (above-only o p i s d view, λ h. ap (told o (placed o p i)) (decides o p i s _ (is-above (h .0) (h .1))));
+      spent = (spent-only o p i s d view, spent-then o p i s);
+    }

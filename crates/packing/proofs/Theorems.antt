@@ -19,12 +19,14 @@ use Rattle.packing.proofs.Counting.{numbers-answered, walk-finds}
 use Rattle.packing.proofs.Running.{take-mapped, drop-mapped, run-prefix, answer-at}
 pub use Rattle.packing.proofs.SizeClasses.{class-bounds, bounds-class}
 pub use Rattle.packing.proofs.Lowest.{lowest-permitted}
-pub use Rattle.packing.proofs.Stock.{spent-exactly}
+pub use Rattle.packing.proofs.Stock.{refused-exactly}
 pub use Rattle.packing.proofs.FreeUnits.{free-units}
 pub use Rattle.packing.proofs.Shelved.{one-list}
 pub use Rattle.packing.proofs.Numbers.{opened-is}
 pub use Rattle.packing.proofs.LeftOut.{refused-left-out}
 pub use Rattle.packing.proofs.Accepted.{accepted-whole}
+pub use Rattle.packing.proofs.Alike.{opened-alike}
+pub use Rattle.packing.proofs.Storing.{by-stored-sizes}
 pub use Rattle.packing.proofs.Given.{stream-gives-back, plan-gives-back, words-give-back}
 
 module _ (o : Opening) (cs : List Command) where

@@ -53,7 +53,7 @@ behind-one cs c (refused reason offset) = refl
 
 -- What the commands behind the opening are read as.
 abbrev pub readBehind : Opening → List ℕ → Read
-readBehind o stream = commands o mostCommands openingLength (behindOpening stream)
+readBehind o stream = commands o mostCommands (openingLength stream) (behindOpening stream)
 
 -- What follows the first n bytes, in the words of code that hands it on as a part of the slice.
 pub part-is : (s : List ℕ) (n : ℕ) → n ≤ length s → take (length s - n) (drop n s) ≡ drop n s
@@ -64,13 +64,13 @@ pub record Walk (o : Opening) (stream rest : List ℕ) (offset : ℕ) (past : Li
   pub place : offset + length rest ≡ length stream
   pub to-come : readBehind o stream ≡ behind past (commands o (mostCommands - length past) offset rest)
 
-pub walk-start : (o : Opening) (stream rest : List ℕ) → openingLength ≤ length stream → rest ≡ behindOpening stream
+pub walk-start : (o : Opening) (stream rest : List ℕ) → openingLength stream ≤ length stream → rest ≡ behindOpening stream
     → Walk o stream rest (length stream - length rest) []
 walk-start o stream rest h e =
-    let passed : length stream - length rest ≡ openingLength = omega (arith, ap length e, length-drop openingLength stream) in
+    let passed : length stream - length rest ≡ openingLength stream = omega (arith, ap length e, length-drop (openingLength stream) stream) in
     record {
       few = omega arith;
-      place = omega (arith, ap length e, length-drop openingLength stream);
+      place = omega (arith, ap length e, length-drop (openingLength stream) stream);
       to-come = rw (passed, e, behind-none);
     }
 

@@ -11,7 +11,7 @@ use lib.Dec.{eqb}
 use lib.ListN.{length, take, drop, getD}
 use Rattle.packing.specs.Prelude.{if_then_else_, any, keep, Opening, Command, Withdraw, Outcome, Placed, Counted, Withdrawn, Refused, NotShelved}
 use Rattle.packing.specs.Refusals.{isRefused, isPlaced, isWithdrawn}
-use Rattle.packing.specs.Bins.{Bin, Packing, empty, freeOn}
+use Rattle.packing.specs.Bins.{Bin, Packing, empty, freeOn, stored}
 use Rattle.packing.specs.Placing.{firstFit}
 use Rattle.packing.specs.Withdrawing.{isNamed, holdsNamed, binHolding, without, withdrawal}
 use Rattle.packing.specs.Run.{item, Step, Shelved, shelving, shelvedBy, sizeOf, nameOf, run, packing, outcomes, stillShelved}
@@ -24,13 +24,13 @@ use Rattle.packing.proofs.Holding.{holds}
 use Rattle.packing.proofs.Running.{run-length, run-prefix, answer-at, move-at}
 
 -- What holds of the items that were on the shelf and of each that a step shelves holds of all that are on it then.
-shelved-each : (P : Shelved → Type 0) (ts : List Step) (on : List Shelved) → ((s : Shelved) → List·Memᴰ s on → P s)
-    → ((t : Step) → List·Memᴰ t ts → (bin free : ℕ) → t .outcome ≡ Placed bin free → P (record { item = item (t .number) (sizeOf (t .command)); bin = bin }))
-    → (s : Shelved) → List·Memᴰ s (shelvedBy ts on) → P s
-shelved-each P [] on h k = h
-shelved-each P (t ∷ ts) on h k = shelved-each P ts _ (go (t .outcome) refl) (λ u m. k u (List·Memᴰ·tail m))
+shelved-each : (o : Opening) (P : Shelved → Type 0) (ts : List Step) (on : List Shelved) → ((s : Shelved) → List·Memᴰ s on → P s)
+    → ((t : Step) → List·Memᴰ t ts → (bin free : ℕ) → t .outcome ≡ Placed bin free → P (record { item = item (t .number) (stored o (sizeOf (t .command))); bin = bin }))
+    → (s : Shelved) → List·Memᴰ s (shelvedBy o ts on) → P s
+shelved-each o P [] on h k = h
+shelved-each o P (t ∷ ts) on h k = shelved-each o P ts _ (go (t .outcome) refl) (λ u m. k u (List·Memᴰ·tail m))
   where
-    go : (a : Outcome) → t .outcome ≡ a → (s : Shelved) → List·Memᴰ s (shelving (t .number) (t .command) a on) → P s
+    go : (a : Outcome) → t .outcome ≡ a → (s : Shelved) → List·Memᴰ s (shelving o (t .number) (t .command) a on) → P s
     go (Placed bin free) e = each-append P on _ h (each-cons P (k t (List·Memᴰ·head refl) bin free e) (λ s m. absurd (List·Memᴰ·not-nil m)))
     go (Counted n) e = h
     go (Withdrawn bin free) e = each-keep (λ s. not (isNamed (nameOf (t .command)) (s .item))) P on h
@@ -39,7 +39,7 @@ shelved-each P (t ∷ ts) on h k = shelved-each P ts _ (go (t .outcome) refl) (�
 -- So each item still shelved was shelved by a step, in its bin.
 as-shelved : (o : Opening) (cs : List Command) (s : Shelved) → List·Memᴰ s (stillShelved o cs) → ShelvedIn (run o cs) (s .item .command) (s .bin)
 as-shelved o cs =
-    shelved-each (λ s. ShelvedIn (run o cs) (s .item .command) (s .bin)) (run o cs) [] (λ s m. absurd (List·Memᴰ·not-nil m))
+    shelved-each o (λ s. ShelvedIn (run o cs) (s .item .command) (s .bin)) (run o cs) [] (λ s m. absurd (List·Memᴰ·not-nil m))
     (λ t m bin free e. record { step = t; among = m; of-number = refl; placed = rw e; its-bin = rw e })
 
 module _ (named : ℕ) where
@@ -87,7 +87,7 @@ module _ (named : ℕ) where
     NotOut ts = (t : Step) → List·Memᴰ t ts → t .command ≡ Withdraw named → isRefused (t .outcome) ≡ true
 
     -- An item on the list stays there, unless a step takes it out.
-    stays-on : {n : ℕ} {p q : Packing} {ts : List Step} → Trace o n p ts q → (on : List Shelved) → NotOut ts → onList on ≡ true → onList (shelvedBy ts on) ≡ true
+    stays-on : {n : ℕ} {p q : Packing} {ts : List Step} → Trace o n p ts q → (on : List Shelved) → NotOut ts → onList on ≡ true → onList (shelvedBy o ts on) ≡ true
     stays-on ends on out e = e
     stays-on (moves (places h) r) on out e =
         stays-on r _ (λ t x. out t (List·Memᴰ·tail x)) (any-append (λ s. isNamed named (s .item)) on _ ∙ rw e)
@@ -100,7 +100,7 @@ module _ (named : ℕ) where
     stays-on (moves (refuses z) r) on out e = stays-on r on (λ t x. out t (List·Memᴰ·tail x)) e
 
     -- The step of its number that is placed puts it there.
-    put-on : {n : ℕ} {p q : Packing} {c : Command} {a : Outcome} (on : List Shelved) → Move o p n c a q → n ≡ named → isPlaced a ≡ true → onList (shelving n c a on) ≡ true
+    put-on : {n : ℕ} {p q : Packing} {c : Command} {a : Outcome} (on : List Shelved) → Move o p n c a q → n ≡ named → isPlaced a ≡ true → onList (shelving o n c a on) ≡ true
     unfolding any
     put-on {n = n} on (places h) e x = any-append (λ s. isNamed named (s .item)) on _ ∙ rw (eq-eqb n named e) (or-true (onList on))
     put-on on (withdraws h) e x = absurd (false≢true x)
@@ -108,13 +108,13 @@ module _ (named : ℕ) where
     put-on on (refuses z) e x = absurd (false≢true x)
 
     placed-on : {n : ℕ} {p q : Packing} {ts : List Step} → Trace o n p ts q → (on : List Shelved) → NotOut ts
-        → (t : Step) → List·Memᴰ t ts → t .number ≡ named → isPlaced (t .outcome) ≡ true → onList (shelvedBy ts on) ≡ true
+        → (t : Step) → List·Memᴰ t ts → t .number ≡ named → isPlaced (t .outcome) ≡ true → onList (shelvedBy o ts on) ≡ true
     placed-on ends on out t m e x = absurd (List·Memᴰ·not-nil m)
     placed-on (moves y r) on out t (List·Memᴰ·head q) e x = stays-on r _ (λ t x. out t (List·Memᴰ·tail x)) (put-on on y (rw q at e) (rw q at x))
     placed-on (moves y r) on out t (List·Memᴰ·tail m) e x = placed-on r _ (λ t x. out t (List·Memᴰ·tail x)) t m e x
 
     -- Once taken out it does not come back, since later items have later numbers.
-    stays-out : {n : ℕ} {p q : Packing} {ts : List Step} → Trace o n p ts q → named < n → (on : List Shelved) → onList on ≡ false → onList (shelvedBy ts on) ≡ false
+    stays-out : {n : ℕ} {p q : Packing} {ts : List Step} → Trace o n p ts q → named < n → (on : List Shelved) → onList on ≡ false → onList (shelvedBy o ts on) ≡ false
     unfolding any
     stays-out ends l on e = e
     stays-out (moves {n = n} (places h) r) l on e =
@@ -144,7 +144,7 @@ module _ (named : ℕ) where
       gone : onList on ≡ false
 
     take-out : {n : ℕ} {p q : Packing} {c : Command} {a : Outcome} (on : List Shelved) → Lying o n p on → Move o p n c a q → c ≡ Withdraw named → isRefused a ≡ false
-        → Gone n (shelving n c a on)
+        → Gone n (shelving o n c a on)
     take-out on h (places x) e z = clash (cc)
     take-out {p = p} on h (withdraws {named = m} x) e z =
         let same : m ≡ named = cc in
@@ -156,7 +156,7 @@ module _ (named : ℕ) where
     take-out on h (refuses w) e z = absurd (true≢false z)
 
     taken-out : {n : ℕ} {p q : Packing} {ts : List Step} → Trace o n p ts q → (on : List Shelved) → Lying o n p on
-        → (t : Step) → List·Memᴰ t ts → t .command ≡ Withdraw named → isRefused (t .outcome) ≡ false → onList (shelvedBy ts on) ≡ false
+        → (t : Step) → List·Memᴰ t ts → t .command ≡ Withdraw named → isRefused (t .outcome) ≡ false → onList (shelvedBy o ts on) ≡ false
     taken-out ends on h t m e z = absurd (List·Memᴰ·not-nil m)
     taken-out (moves y r) on h t (List·Memᴰ·head q) e z =
         let g = take-out on h y (rw q at e) (rw q at z) in

@@ -1,11 +1,15 @@
 -- Items, bins and packings: document 01's masters, cartridges and shelf.
-use Rattle.packing.specs.Prelude.{ℕ, zero, suc, _-_, Bool, List, [], _∷_, map, length, getD, total, any, Opening, SizeClass}
+use Rattle.packing.specs.Prelude.{ℕ, zero, suc, _+_, _-_, Bool, List, [], _∷_, map, length, getD, total, any, Opening, SizeClass}
 use Rattle.packing.specs.SizeClasses.{sizeClass, isA}
 
--- A master: the number of the command that shelved it, and its whole number of units.
+-- A master: the number of the command that shelved it, and its whole number of units, the trailer with them.
 pub record Item : Type 0 where
   pub command : ℕ
   pub size : ℕ
+
+-- "The stored size is size plus trailer."
+abbrev pub stored : Opening → (size : ℕ) → ℕ
+stored o size = size + o .trailer
 
 -- A cartridge keeps its class, 1 to 4, also when it is emptied. The last item stands first.
 pub record Bin : Type 0 where

@@ -2,15 +2,16 @@
 -- own answers are stated in the crate worst_case.
 use Rattle.packing.specs.Prelude.{ℕ, suc, _+_, _*_, _≤_, _<_, min, _≡_, _↔_, Bool, true, false, _||_}
 use Rattle.packing.specs.Prelude.{List, [], _∷_, _++_, map, zipWith, flatten, reverse, length, take, drop, List·Memᴰ, total, any, keep, _=?_}
-use Rattle.packing.specs.Prelude.{Opening, SizeClass, A, B1, B2, X, Command, Shelve, Count, Withdraw, Outcome, Placed, Withdrawn, Refused, ItemReason, StockSpent, NotShelved}
+use Rattle.packing.specs.Prelude.{Opening, SizeClass, A, B1, B2, X, Command, Shelve, Count, Withdraw, Outcome, Placed, Withdrawn, Refused, ItemReason, SizeZero, AboveCapacity, StockSpent, NotShelved}
 use Rattle.packing.specs.Prelude.{StreamResult, PlanResult}
 use Rattle.packing.specs.Refusals.{isRefused, isPlaced, isWithdrawn, binsNamed, word, freeUnits, outcomeOf, figures, streamGives, planGives}
 use Rattle.packing.specs.SizeClasses.{sizeClass, countB2}
-use Rattle.packing.specs.Bins.{Item, Bin, Packing, opened, load, itemsOf, kind}
+use Rattle.packing.specs.Bins.{Item, Bin, Packing, opened, load, itemsOf, kind, stored}
 use Rattle.packing.specs.Placing.{permitted, target, takes}
 use Rattle.packing.specs.Limits.{openingGood, mostCommands}
-use Rattle.packing.specs.Streams.{openingLength, openingOf, behindOpening, accepted, commands, verdict}
-use Rattle.packing.specs.Run.{item, Step, answerTo, next, run, packing, outcomes, answers, placements, stillShelved, result}
+use Rattle.packing.specs.Streams.{isOpening, firstByte, openingLength, openingOf, behindOpening, accepted, commands, verdict}
+use Rattle.packing.specs.Openings.{withoutTrailer, withZeroTrailer, moved, noTrailer, byStored}
+use Rattle.packing.specs.Run.{item, Step, answerTo, next, run, packing, outcomes, answers, placements, stillShelved, result, rowAtExit}
 use Rattle.packing.specs.Counting.{stockPlaces, walk}
 use Rattle.packing.specs.Compared.{acceptedSizes, numberOpened, noneOut, shelfPlan, shelvedSizes, sizesIn}
 use Rattle.packing.specs.LeftOut.{notRefused, changes, newNumber, resent, outcomesKept, renumbered, renumberedShelved}
@@ -90,7 +91,7 @@ module _ (o : Opening) (cs : List Command) where
   abbrev pub LowestPermitted : Type 0
   LowestPermitted =
       (j size bin free : ℕ) (later : List Command) (others : List Outcome) → drop j cs ≡ Shelve size ∷ later
-      → drop j (outcomes o cs) ≡ Placed bin free ∷ others → Lowest o (packing o (take j cs)) (item (suc j) size) bin
+      → drop j (outcomes o cs) ≡ Placed bin free ∷ others → Lowest o (packing o (take j cs)) (item (suc j) (stored o size)) bin
 
   -- Where command j + 1 is answered by a bin and its free units, these are that bin's after every command up to which it is opened and the items still
   -- shelved that were answered its number are the same: from that command on, until an item goes there or leaves it.
@@ -107,6 +108,13 @@ module _ (o : Opening) (cs : List Command) where
   -- Where no withdrawal is accepted, the items still shelved are those accepted.
   abbrev pub OneList : Type 0
   OneList = noneOut o cs ≡ true → shelfPlan o cs ≡ placements o cs
+
+  -- "Class, load, the loads' sum, free units, refusal 9 and every plan go by the stored size": all is as without a trailer, with the stored sizes sent.
+  pub record ByStoredSizes : Type 0 where
+    pub same-outcomes : outcomes o cs ≡ outcomes (noTrailer o) (map (byStored o) cs)
+    pub same-packing : packing o cs ≡ packing (noTrailer o) (map (byStored o) cs)
+    pub same-shelved : stillShelved o cs ≡ stillShelved (noTrailer o) (map (byStored o) cs)
+    pub same-accepted : placements o cs ≡ placements (noTrailer o) (map (byStored o) cs)
 
   pub record Withdrawals : Type 0 where
     -- Refused with 17 exactly when the item named is not on the shelf.
@@ -173,10 +181,10 @@ WordsGiveBack o cs =
 -- place after it, and no more commands than 4,096 and than there are words.
 pub record WholeStream (stream : List ℕ) (words : ℕ) (o : Opening) (cs : List Command) : Type 0 where
   pub opening-good : openingGood o ≡ true
-  pub opening-first : take 1 stream ≡ 0x01 ∷ []
-  pub opening-whole : openingLength ≤ length stream
-  pub opening-is : openingOf (drop 1 stream) ≡ o
-  pub commands-whole : commands o mostCommands openingLength (behindOpening stream) ≡ accepted o cs
+  pub opening-first : isOpening (firstByte stream) ≡ true
+  pub opening-whole : openingLength stream ≤ length stream
+  pub opening-is : openingOf (firstByte stream) (drop 1 stream) ≡ o
+  pub commands-whole : commands o mostCommands (openingLength stream) (behindOpening stream) ≡ accepted o cs
   pub commands-few : length cs ≤ mostCommands
   pub words-enough : length cs ≤ words
 
@@ -184,16 +192,26 @@ pub record WholeStream (stream : List ℕ) (words : ℕ) (o : Opening) (cs : Lis
 abbrev pub AcceptedWhole : (stream : List ℕ) (words : ℕ) (o : Opening) (cs : List Command) → Type 0
 AcceptedWhole stream words o cs = verdict stream words ≡ accepted o cs → WholeStream stream words o cs
 
+-- "A stream opened with 01 has trailer 0, so its answers are as before": with 11 and a trailer of 0 in its place the same opening and commands are read,
+-- or the same refusal, and so every word of a row is the same.
+pub record OpenedAlike (s : List ℕ) (words : ℕ) : Type 0 where
+  pub no-trailer : (o : Opening) (cs : List Command) → verdict (withoutTrailer s) words ≡ accepted o cs → o .trailer ≡ 0
+  pub same-reading : verdict (withZeroTrailer s) words ≡ moved (verdict (withoutTrailer s) words)
+  pub same-rows : (tells : Outcome → ℕ) (row : List ℕ) → rowAtExit tells (verdict (withZeroTrailer s) words) row ≡ rowAtExit tells (verdict (withoutTrailer s) words) row
+
 -- A new bin is called for and the stock is spent: no permitted bin has space, and the whole stock is opened.
-pub record Spent (o : Opening) (p : Packing) (i : Item) : Type 0 where
-  pub some : 1 ≤ i .size
+pub record Spent (o : Opening) (p : Packing) (i : Item) (bare : ℕ) : Type 0 where
+  pub some : 1 ≤ bare
   pub within-capacity : i .size ≤ o .capacity
   pub no-space : (b : Bin) → List·Memᴰ b (p .bins) → permitted o (target o p i) b ≡ true → o .capacity < load b + i .size
   pub all-opened : o .stock ≤ opened p
 
--- Refused with 10 exactly then; in the order 8, 9, 10 the other two are refused before.
-abbrev pub SpentExactly : Opening → Packing → (number size : ℕ) → Type 0
-SpentExactly o p n s = (answerTo o p n (Shelve s) ≡ Refused StockSpent) ↔ Spent o p (item n s)
+-- An item is refused in the order 8, 9, 10, each under exactly its condition: "refusal 8 goes by the bare size", 9 by the stored one, whatever the
+-- trailer is, and 10 comes where the stock is spent.
+pub record RefusedExactly (o : Opening) (p : Packing) (n s : ℕ) : Type 0 where
+  pub zero : (answerTo o p n (Shelve s) ≡ Refused SizeZero) ↔ (s ≡ 0)
+  pub above : (answerTo o p n (Shelve s) ≡ Refused AboveCapacity) ↔ ((1 ≤ s) × (o .capacity < s + o .trailer))
+  pub spent : (answerTo o p n (Shelve s) ≡ Refused StockSpent) ↔ Spent o p (item n (stored o s)) s
 
 -- A refused command changes nothing.
 abbrev pub RefusedChangesNothing : Opening → Packing → (number : ℕ) → Command → Type 0

@@ -5,7 +5,7 @@ use Rattle.packing.specs.Refusals.{isWithdrawn}
 use Rattle.packing.specs.Run.{entryOf, outcomes, placements, stillShelved}
 
 module _ (o : Opening) (cs : List Command) where
-  -- "The accepted masters": the sizes, in the stream's order, of the commands that shelve an item and are not refused.
+  -- "The accepted masters": the stored sizes, in the stream's order, of the commands that shelve an item and are not refused.
   abbrev pub acceptedSizes : List ℕ
   acceptedSizes = map (λ e. e .size) (placements o cs)
 

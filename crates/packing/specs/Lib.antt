@@ -7,6 +7,7 @@ pub mod Bins
 pub mod Placing
 pub mod Withdrawing
 pub mod Streams
+pub mod Openings
 pub mod Run
 pub mod Counting
 pub mod Plans

@@ -60,10 +60,10 @@ module _ (o : Opening) where
     abbrev pub spent : Bool
     spent = (opened p <? binFor) && (o .stock ≤? opened p)
 
-    -- For one item the order is 8, 9, 10.
-    unfoldable pub decision : Decision
-    decision =
-        if i .size =? 0 then refusing SizeZero else
+    -- For one item the order is 8, 9, 10. "Refusal 8 goes by the bare size", 9 and all that follows by the stored one.
+    unfoldable pub decision : (bare : ℕ) → Decision
+    decision bare =
+        if bare =? 0 then refusing SizeZero else
         if o .capacity <? i .size then refusing AboveCapacity else
         if spent then refusing StockSpent else
         into binFor

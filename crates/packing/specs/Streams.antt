@@ -1,28 +1,36 @@
 -- "Command streams": a row of bytes is read as an opening and the commands after it, or refused.
-use Rattle.packing.specs.Prelude.{ℕ, zero, suc, _+_, _*_, min, _≡_, not, List, [], _∷_, foldl, length, take, drop, _=?_, _<?_, if_then_else_}
+use Rattle.packing.specs.Prelude.{ℕ, zero, suc, _+_, _*_, min, _≡_, Bool, not, _||_, List, [], _∷_, foldl, length, take, drop, getD, _=?_, _<?_, if_then_else_}
 use Rattle.packing.specs.Prelude.{Opening, Command, Shelve, Count, Withdraw, WidthRow, Width, Known, Unknown}
 use Rattle.packing.specs.Prelude.{StreamReason, NoOpening, UnknownOpcode, CutShort, SecondOpening, OutsideLimits, TooManyCommands, TooFewWords}
 use Rattle.packing.specs.Limits.{openingGood, mostCommands}
 
--- capacity 4 bytes, stock 2, m 1
-abbrev pub openingWidth : ℕ
-openingWidth = 4 + 2 + 1
+-- "Either opening may start a stream, once."
+abbrev pub isOpening : (opcode : ℕ) → Bool
+isOpening b = (b =? 0x01) || (b =? 0x11)
 
--- Its opcode and its operands.
-abbrev pub openingLength : ℕ
-openingLength = 1 + openingWidth
+-- capacity 4 bytes, stock 2, m 1; 11 "has the operands of 01 and then a 2-byte trailer length"
+abbrev pub openingWidth : (opcode : ℕ) → ℕ
+openingWidth b = if b =? 0x11 then 4 + 2 + 1 + 2 else 4 + 2 + 1
+
+-- The byte at the front, and how long the opening is that it begins: its opcode and its operands.
+abbrev pub firstByte : (stream : List ℕ) → ℕ
+firstByte stream = getD stream 0 0
+
+abbrev pub openingLength : (stream : List ℕ) → ℕ
+openingLength stream = suc (openingWidth (firstByte stream))
 
 -- The commands begin behind the opening.
 abbrev pub behindOpening : (stream : List ℕ) → List ℕ
-behindOpening stream = drop openingLength stream
+behindOpening stream = drop (openingLength stream) stream
 
 -- "One table gives each command byte its operand width."
 unfoldable pub widths : List WidthRow
 widths =
-    record { opcode = 0x01; width = openingWidth } ∷
+    record { opcode = 0x01; width = openingWidth 0x01 } ∷
     record { opcode = 0x02; width = 4 } ∷
     record { opcode = 0x03; width = 0 } ∷
     record { opcode = 0x04; width = 2 } ∷
+    record { opcode = 0x11; width = openingWidth 0x11 } ∷
     []
 
 unfoldable pub lookup : ℕ → List WidthRow → Width
@@ -33,8 +41,9 @@ lookup b (row ∷ rows) = if row .opcode =? b then Known (row .width) else looku
 abbrev pub operand : (before width : ℕ) → List ℕ → ℕ
 operand before width s = foldl (λ n b. n * 256 + b) 0 (take width (drop before s))
 
-abbrev pub openingOf : List ℕ → Opening
-openingOf s = record { capacity = operand 0 4 s; stock = operand 4 2 s; m = operand 6 1 s }
+-- The opening of this opcode with s behind it. "A stream opened with 01 has trailer 0."
+abbrev pub openingOf : (opcode : ℕ) → List ℕ → Opening
+openingOf b s = record { capacity = operand 0 4 s; stock = operand 4 2 s; m = operand 6 1 s; trailer = if b =? 0x11 then operand 7 2 s else 0 }
 
 -- the command of an opcode that is in the table and is no opening
 abbrev pub commandOf : ℕ → List ℕ → Command
@@ -49,7 +58,7 @@ pub data Front : Type 0 where
 abbrev pub front : (b : ℕ) (s : List ℕ) → Width → Front
 front b s Unknown = faulty UnknownOpcode
 front b s (Known width) =
-    if b =? 0x01 then faulty SecondOpening else
+    if isOpening b then faulty SecondOpening else
     if length s <? width then faulty CutShort else
     whole (commandOf b s) width
 
@@ -87,10 +96,10 @@ commands o (suc left) offset (b ∷ s) = elim (frontOf (b ∷ s)) [
 unfoldable pub read : List ℕ → Read
 read [] = refused NoOpening 0
 read (b ∷ s) =
-    if not (b =? 0x01) then refused NoOpening 0 else
-    if length s <? openingWidth then refused CutShort 0 else
-    if not (openingGood (openingOf s)) then refused OutsideLimits 0 else
-    commands (openingOf s) mostCommands openingLength (drop openingWidth s)
+    if not (isOpening b) then refused NoOpening 0 else
+    if length s <? openingWidth b then refused CutShort 0 else
+    if not (openingGood (openingOf b s)) then refused OutsideLimits 0 else
+    commands (openingOf b s) mostCommands (suc (openingWidth b)) (drop (openingWidth b) s)
 
 -- Two rows are lent, and "refusal 7 covers a shortage in either row": so many commands have a word in both.
 abbrev pub wordsLent : (answers free : List ℕ) → ℕ

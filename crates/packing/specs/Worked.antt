@@ -1,10 +1,11 @@
 -- "Worked shelves": the cases marked ● make one table, proved together by one theorem that computes over it.
-use Rattle.packing.specs.Prelude.{ℕ, _+_, _*_, _≡_, refl, Bool, true, false, List, [], _∷_, _++_, map, zipWith, flatten, replicate, total, greatest, any, keep, _≤?_}
-use Rattle.packing.specs.Prelude.{Opening, SizeClass, A, B1, B2, X, Command, Shelve, Count, Withdraw, StreamResult, PlanResult, Overfull}
+use Rattle.packing.specs.Prelude.{ℕ, _+_, _*_, _≡_, refl, Bool, true, false, List, [], _∷_, _++_, map, zipWith, flatten, take, drop, replicate, total, greatest, any, keep, _≤?_}
+use Rattle.packing.specs.Prelude.{Opening, SizeClass, A, B1, B2, X, Command, Shelve, Count, Withdraw, StreamResult, CutShort, SecondOpening, TooFewWords, PlanResult, Overfull}
 use Rattle.packing.specs.Refusals.{word, freeUnits}
 use Rattle.packing.specs.SizeClasses.{sizeClass}
 use Rattle.packing.specs.Placing.{firstFit, put, decision, placed}
 use Rattle.packing.specs.Streams.{widths, lookup, commands, read, verdict}
+use Rattle.packing.specs.Openings.{withZeroTrailer}
 use Rattle.packing.specs.Withdrawing.{without, withdrawal}
 use Rattle.packing.specs.Run.{runFrom, packingFrom, packing, outcomes, result, rowAtExit}
 use Rattle.packing.specs.Counting.{stockPlaces, walk}
@@ -25,9 +26,12 @@ infix 70 _is_
 abbrev pub _is_ : Finding → Finding → Finding × Finding
 computed is said = (computed, said)
 
--- Every worked shelf has m 6.
+-- Every worked shelf has m 6, and none of document 01 a trailer.
 abbrev pub opening : (capacity stock : ℕ) → Opening
-opening c stock = record { capacity = c; stock = stock; m = 6 }
+opening c stock = record { capacity = c; stock = stock; m = 6; trailer = 0 }
+
+abbrev pub trailed : (capacity trailer : ℕ) → Opening
+trailed c trailer = record { capacity = c; stock = 512; m = 6; trailer = trailer }
 
 abbrev pub shelved : (capacity stock : ℕ) → List ℕ → Finding
 shelved c stock sizes = words (map word (outcomes (opening c stock) (map Shelve sizes)))
@@ -35,9 +39,15 @@ shelved c stock sizes = words (map word (outcomes (opening c stock) (map Shelve 
 abbrev pub left : (capacity stock : ℕ) → List ℕ → Finding
 left c stock sizes = words (map freeUnits (outcomes (opening c stock) (map Shelve sizes)))
 
--- The words of both rows, one after the other, of these commands at capacity 60.
+-- The words of both rows, one after the other, of these commands.
+abbrev pub bothRows : Opening → List Command → Finding
+bothRows o cs = words (map word (outcomes o cs) ++ map freeUnits (outcomes o cs))
+
 abbrev pub answered : (stock : ℕ) → List Command → Finding
-answered stock cs = words (map word (outcomes (opening 60 stock) cs) ++ map freeUnits (outcomes (opening 60 stock) cs))
+answered stock cs = bothRows (opening 60 stock) cs
+
+abbrev pub storing : (capacity trailer : ℕ) → List ℕ → Finding
+storing c trailer sizes = bothRows (trailed c trailer) (map Shelve sizes)
 
 -- What a count hands back after these sizes at capacity 60: the figure, and the places read.
 abbrev pub counted : (stock : ℕ) → List ℕ → Finding
@@ -68,6 +78,14 @@ sample =
     0x02 ∷ 0 ∷ 0 ∷ 0 ∷ 0x14 ∷
     0x03 ∷
     0x02 ∷ 0 ∷ 0 ∷ 0 ∷ 0x16 ∷ []
+
+-- The same with 11 and a trailer of 0.
+abbrev pub sampleTrailed : List ℕ
+sampleTrailed = withZeroTrailer (drop 1 sample)
+
+-- An opening with capacity 1,024 and a trailer of 1 x 256 + 2, and an item of 1 unit.
+abbrev pub trailer258 : List ℕ
+trailer258 = 0x11 ∷ 0 ∷ 0 ∷ 4 ∷ 0 ∷ 0 ∷ 4 ∷ 6 ∷ 1 ∷ 2 ∷ 0x02 ∷ 0 ∷ 0 ∷ 0 ∷ 1 ∷ []
 
 unfoldable pub table : List (Finding × Finding)
 table =
@@ -107,6 +125,23 @@ table =
     figure (3 * numberOpened (opening 60 512) recalled) is figure 21 ∷
     figure (5 * used (shelfPlan (opening 60 512) recalled) + 15) is figure 20 ∷
     holds (3 * numberOpened (opening 60 512) recalled ≤? 5 * used (shelfPlan (opening 60 512) recalled) + 15) is holds false ∷
+    -- A trailer: class, load, free units and 9 go by the stored size, 8 by the bare one.
+    storing 60 3 (57 ∷ 58 ∷ 0 ∷ 18 ∷ 17 ∷ 22 ∷ 27 ∷ 28 ∷ [])
+    is words (1 ∷ 32_777 ∷ 32_776 ∷ 2 ∷ 3 ∷ 4 ∷ 4 ∷ 5 ∷ 0 ∷ 0 ∷ 0 ∷ 39 ∷ 40 ∷ 35 ∷ 5 ∷ 29 ∷ []) ∷
+    words (shelvedSizes (trailed 60 3) (map Shelve (57 ∷ 58 ∷ 0 ∷ 18 ∷ 17 ∷ []))) is words (60 ∷ 21 ∷ 20 ∷ []) ∷
+    -- One that leaves a unit of the capacity, none, and less than none.
+    storing 60 59 (0 ∷ 1 ∷ 2 ∷ []) is words (32_776 ∷ 1 ∷ 32_777 ∷ 0 ∷ 0 ∷ 0 ∷ []) ∷
+    storing 60 60 (0 ∷ 1 ∷ []) is words (32_776 ∷ 32_777 ∷ 0 ∷ 0 ∷ []) ∷
+    storing 60 65_535 (0 ∷ 1 ∷ 4_294_967_295 ∷ []) is words (32_776 ∷ 32_777 ∷ 32_777 ∷ 0 ∷ 0 ∷ 0 ∷ []) ∷
+    -- The sum is exact: in 32 bits the first would be 65,534.
+    storing 16_777_216 65_535 (4_294_967_295 ∷ 16_711_682 ∷ 16_711_681 ∷ []) is words (32_777 ∷ 32_777 ∷ 1 ∷ 0 ∷ 0 ∷ 0 ∷ []) ∷
+    -- The trailer is read behind m; a stream has one opening, of either kind, and 11 is longer than 01.
+    words (rowAtExit freeUnits (verdict trailer258 1) (7 ∷ [])) is words (765 ∷ []) ∷
+    returned (result (verdict (take 9 trailer258) 1)) is returned (StreamResult.Refused CutShort 0) ∷
+    returned (result (verdict (sample ++ 0x11 ∷ []) 12)) is returned (StreamResult.Refused SecondOpening 54) ∷
+    returned (result (verdict (sampleTrailed ++ 0x01 ∷ []) 12)) is returned (StreamResult.Refused SecondOpening 56) ∷
+    returned (result (verdict sampleTrailed 9)) is returned (StreamResult.Refused TooFewWords 56) ∷
+    words (rowAtExit word (verdict sampleTrailed 12) (replicate 12 7)) is words (1 ∷ 2 ∷ 2 ∷ 3 ∷ 3 ∷ 4 ∷ 1 ∷ 32_778 ∷ 4 ∷ 4 ∷ 7 ∷ 7 ∷ []) ∷
     -- The sample stream, with two words more in each row than it has commands.
     returned (result (verdict sample 12)) is returned (StreamResult.Accepted 8 4) ∷
     words (rowAtExit word (verdict sample 12) (replicate 12 7)) is words (1 ∷ 2 ∷ 2 ∷ 3 ∷ 3 ∷ 4 ∷ 1 ∷ 32_778 ∷ 4 ∷ 4 ∷ 7 ∷ 7 ∷ []) ∷

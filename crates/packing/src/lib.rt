@@ -18,15 +18,16 @@ pub struct PerClass {
     pub x: usize,
 }
 
-// The operands of the opening.
+// The operands of the opening; the trailer, which is written after each item, is 0 where an opening has none.
 pub struct Opening {
     pub capacity: u32,
     pub stock: u16,
     pub m: u8,
+    pub trailer: u16,
 }
 
-// A command after the opening: 02, shelve an item of this size; 03, how many bins are opened; 04, take out the item that the command of this number
-// shelved. (Of one width, so that a command is a kind and a number, and the compiler keeps the two apart.)
+// A command after the opening: 02, shelve an item of this bare size; 03, how many bins are opened; 04, take out the item that the command of this
+// number shelved. (Of one width, so that a command is a kind and a number, and the compiler keeps the two apart.)
 pub enum Command {
     Shelve(u32),
     Count,

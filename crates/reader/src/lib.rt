@@ -4,10 +4,9 @@ use limits::MOST_COMMANDS;
 use packing::Opening;
 use packing::StreamReason;
 ghost use mathlib.Core.Path.{_≡_};
-ghost use Prim.Native.Nat.{_≤_};
-ghost use lib.ListN.{length, drop};
+ghost use lib.ListN.{drop};
 ghost use Rattle.packing.specs.Limits.{mostCommands};
-ghost use Rattle.packing.specs.Streams.{openingLength, behindOpening, openingOf, commands, read};
+ghost use Rattle.packing.specs.Streams.{firstByte, openingLength, behindOpening, openingOf, commands, read};
 ghost use Rattle.reader.specs.Reading.{Opened, summary};
 ghost use Rattle.reader.specs.Items.{itemLength, ItemsAhead};
 
@@ -17,18 +16,33 @@ pub enum Summary {
     Refused(StreamReason, usize),
 }
 
+// The trailer of the opening: 11 alone has one.
+fn trailer_of(stream: &[u8]) -> u16
+    requires { ⌜ Opened (now stream) ⌝ }
+    ensures { λ r. ⌜ r ≡ openingOf (firstByte (now (stream .entry))) (drop 1 (now (stream .entry))) .trailer ⌝ }
+{
+    let opcode = stream[0];
+    if opcode == 0x11 {
+        let trailer = fronts::operand(stream, 8, 2);
+        return trailer as u16;
+    }
+    0
+}
+
 // The opening's operands, behind its opcode.
 pub fn opening_of(stream: &[u8]) -> Opening
-    requires { ⌜ openingLength ≤ length (now stream) ⌝ }
-    ensures { λ r. ⌜ r ≡ openingOf (drop 1 (now (stream .entry))) ⌝ }
+    requires { ⌜ Opened (now stream) ⌝ }
+    ensures { λ r. ⌜ r ≡ openingOf (firstByte (now (stream .entry))) (drop 1 (now (stream .entry))) ⌝ }
 {
     let capacity = fronts::operand(stream, 1, 4);
-    let stock = fronts::operand(stream, 5, 2);
-    let m = fronts::operand(stream, 7, 1);
+    let stock = fronts::operand(stream, 5, 2) as u16;
+    let m = fronts::operand(stream, 7, 1) as u8;
+    let trailer = trailer_of(stream);
     Opening {
         capacity,
-        stock: stock as u16,
-        m: m as u8,
+        stock,
+        m,
+        trailer,
     }
 }
 
@@ -75,7 +89,7 @@ fn items_ahead(rest: &[u8], most: usize) -> usize
 // Reads the commands after the opening, of which there may be 4,096; refusal 6 comes first.
 fn scan(stream: &[u8], o: Opening) -> Summary
     requires { ⌜ Opened (now stream) ⌝ }
-    ensures { λ r. ⌜ r ≡ summary (commands o mostCommands openingLength (behindOpening (now (stream .entry)))) ⌝ }
+    ensures { λ r. ⌜ r ≡ summary (commands o mostCommands (openingLength (now (stream .entry))) (behindOpening (now (stream .entry)))) ⌝ }
 {
     let mut rest = behind_opening(stream);
     let mut count: usize = 0;
@@ -114,7 +128,7 @@ pub fn validate(stream: &[u8]) -> Summary
         return Summary::Refused(StreamReason::NoOpening, 0);
     }
     let opcode = stream[0];
-    if opcode != 1 {
+    if !fronts::is_opening(opcode) {
         return Summary::Refused(StreamReason::NoOpening, 0);
     }
     let width = fronts::table_width(opcode);

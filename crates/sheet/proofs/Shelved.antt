@@ -4,7 +4,7 @@ use mathlib.Core.List.{List}
 use Prim.Native.Nat.{ℕ, _+_, _*_, _≤_}
 use lib.ListN.{length, drop}
 use Rattle.packing.specs.declared.Opening.{Opening}
-use Rattle.packing.specs.Streams.{openingOf}
+use Rattle.packing.specs.Streams.{firstByte, openingOf}
 use Rattle.ledger.specs.Rows.{places}
 use Rattle.stream.proofs.Shelved.{Shelved, shelved-whole, shelved-same}
 use Rattle.report.specs.Lines.{mostBytes}
@@ -13,7 +13,7 @@ use Rattle.sheet.specs.Sheet.{sheetText, sheet}
 use Rattle.sheet.specs.Writing.{lineLength, pagesOf, ledgerText, Legibles}
 use Rattle.sheet.proofs.Ledgers.{ledger-legible, ledger-text}
 
-module _ {stream : List ℕ} {ledger : List (List ℕ)} {bins : ℕ} (k : Shelved stream ledger bins) (o : Opening) (e : o ≡ openingOf (drop 1 stream)) where
+module _ {stream : List ℕ} {ledger : List (List ℕ)} {bins : ℕ} (k : Shelved stream ledger bins) (o : Opening) (e : o ≡ openingOf (firstByte stream) (drop 1 stream)) where
   pub shelved-legible : (out : List ℕ) → lineLength * (places + pagesOf places) ≤ length out → Legibles ledger (o .capacity) bins out
   shelved-legible out room =
       rw (shelved-same k e, k .bins-are) (ledger-legible (k .opening) (k .commands) (shelved-whole k .opening-good) (shelved-whole k .commands-few) (k .records) out room)

@@ -7,7 +7,7 @@ ghost use Rattle.packing.specs.Refusals.{word, freeUnits};
 ghost use Rattle.packing.specs.Streams.{wordsLent, verdict};
 ghost use Rattle.packing.specs.Run.{result, rowAtExit};
 ghost use Rattle.packing.specs.Plans.{planOf, check};
-ghost use Rattle.packing.specs.Claims.{HoldsAnswered, NeverOverfull, LowestPermitted, FreeUnits, LoadsAddUp, Withdrawals, AnswersInRange, RefusedLeftOut, Counts};
+ghost use Rattle.packing.specs.Claims.{HoldsAnswered, NeverOverfull, LowestPermitted, FreeUnits, LoadsAddUp, ByStoredSizes, Withdrawals, AnswersInRange, RefusedLeftOut, Counts};
 ghost use Rattle.worst_case.specs.OwnPlan.{OwnPlan};
 ghost use Rattle.worst_case.specs.WorstCase.{WorstCase};
 ghost use Rattle.sheet.specs.Sheet.{sheet};
@@ -28,6 +28,7 @@ pub extern "C" fn shelf_stream(stream: &[u8], answers: &mut [u16], free: &mut [u
     ensures lowest_permitted { λ _. ⌜ WhenAccepted (now (stream .entry)) (wordsLent (now (answers .entry)) (now (free .entry))) LowestPermitted ⌝ }
     ensures free_units { λ _. ⌜ WhenAccepted (now (stream .entry)) (wordsLent (now (answers .entry)) (now (free .entry))) FreeUnits ⌝ }
     ensures loads_add_up { λ _. ⌜ WhenAccepted (now (stream .entry)) (wordsLent (now (answers .entry)) (now (free .entry))) LoadsAddUp ⌝ }
+    ensures by_stored_sizes { λ _. ⌜ WhenAccepted (now (stream .entry)) (wordsLent (now (answers .entry)) (now (free .entry))) ByStoredSizes ⌝ }
     ensures withdrawals { λ _. ⌜ WhenAccepted (now (stream .entry)) (wordsLent (now (answers .entry)) (now (free .entry))) Withdrawals ⌝ }
     ensures answers_in_range { λ _. ⌜ WhenAccepted (now (stream .entry)) (wordsLent (now (answers .entry)) (now (free .entry))) AnswersInRange ⌝ }
     ensures refused_left_out { λ _. ⌜ WhenAccepted (now (stream .entry)) (wordsLent (now (answers .entry)) (now (free .entry))) RefusedLeftOut ⌝ }

@@ -12,7 +12,7 @@ ghost use Rattle.packing.specs.Refusals.{word, freeUnits, streamGives, planGive
 ghost use Rattle.packing.specs.Streams.{wordsLent, verdict};
 ghost use Rattle.packing.specs.Run.{result, rowAtExit};
 ghost use Rattle.packing.specs.Plans.{planOf, check};
-ghost use Rattle.packing.specs.Claims.{HoldsAnswered, NeverOverfull, LowestPermitted, FreeUnits, LoadsAddUp, Withdrawals, AnswersInRange, RefusedLeftOut, Counts};
+ghost use Rattle.packing.specs.Claims.{HoldsAnswered, NeverOverfull, LowestPermitted, FreeUnits, LoadsAddUp, ByStoredSizes, Withdrawals, AnswersInRange, RefusedLeftOut, Counts};
 ghost use Rattle.worst_case.specs.PlanFits.{Exact};
 ghost use Rattle.worst_case.specs.OwnPlan.{OwnPlan};
 ghost use Rattle.worst_case.specs.WorstCase.{WorstCase};
@@ -21,12 +21,13 @@ ghost use Rattle.sheet.specs.Claims.{LinesOf40, OneRowEach, SheetLoadsAddUp, Fr
 ghost use Rattle.shelf.specs.Accepted.{WhenAccepted};
 
 // Shelves the items of a command stream, and answers each command by a word of each of the two rows that the caller lends. Of the packing so made, if
-// no refusal stops the stream: every count is of the bins opened by then, whose numbers have no gaps among them; bin n holds the items still shelved that
-// were answered n, and no bin is overfull; each item goes to the lowest permitted bin with space; the free units beside an answer are those of its bin,
-// until an item goes there or leaves it; the loads add up to the sizes still shelved; a withdrawal is refused exactly when the item that it names is not
-// on the shelf, and else answers the bin of that item, and a bin keeps its number and class; every bin answered is one of those opened; without the
-// refused commands the others are answered as they were; the checker passes the plan of the items still shelved; and (demand 3) after each command up to
-// which nothing was withdrawn 3 times the number opened is at most 5k + 15, for every plan that passes and uses k bins.
+// no refusal stops the stream: every count is of the bins opened by then, whose numbers have no gaps among them; bin n holds the items still shelved
+// that were answered n, and no bin is overfull; each item goes to the lowest permitted bin with space; the free units beside an answer are those of its
+// bin, until an item goes there or leaves it; the loads add up to the stored sizes still shelved; all is as without a trailer, with the stored sizes
+// sent; a withdrawal is refused exactly when the item that it names is not on the shelf, and else answers the bin of that item, and a bin keeps its
+// number and class; every bin answered is one of those opened; without the refused commands the others are answered as they were; the checker passes
+// the plan of the items still shelved; and (demand 3) after each command up to which nothing was withdrawn 3 times the number opened is at most 5k +
+// 15, for every plan that passes and uses k bins.
 pub fn shelve(stream: &[u8], answers: &mut [u16], free: &mut [u32]) -> StreamResult
     ensures result { λ r. ⌜ streamGives r ≡ streamGives (result (verdict (now (stream .entry)) (wordsLent (now (answers .entry)) (now (free .entry))))) ⌝ }
     ensures answers { λ _. ⌜ now (answers .exit) ≡ rowAtExit word (verdict (now (stream .entry)) (wordsLent (now (answers .entry)) (now (free .entry)))) (now (answers .entry)) ⌝ }
@@ -37,6 +38,7 @@ pub fn shelve(stream: &[u8], answers: &mut [u16], free: &mut [u32]) -> StreamRes
     ensures lowest_permitted { λ _. ⌜ WhenAccepted (now (stream .entry)) (wordsLent (now (answers .entry)) (now (free .entry))) LowestPermitted ⌝ }
     ensures free_units { λ _. ⌜ WhenAccepted (now (stream .entry)) (wordsLent (now (answers .entry)) (now (free .entry))) FreeUnits ⌝ }
     ensures loads_add_up { λ _. ⌜ WhenAccepted (now (stream .entry)) (wordsLent (now (answers .entry)) (now (free .entry))) LoadsAddUp ⌝ }
+    ensures by_stored_sizes { λ _. ⌜ WhenAccepted (now (stream .entry)) (wordsLent (now (answers .entry)) (now (free .entry))) ByStoredSizes ⌝ }
     ensures withdrawals { λ _. ⌜ WhenAccepted (now (stream .entry)) (wordsLent (now (answers .entry)) (now (free .entry))) Withdrawals ⌝ }
     ensures answers_in_range { λ _. ⌜ WhenAccepted (now (stream .entry)) (wordsLent (now (answers .entry)) (now (free .entry))) AnswersInRange ⌝ }
     ensures refused_left_out { λ _. ⌜ WhenAccepted (now (stream .entry)) (wordsLent (now (answers .entry)) (now (free .entry))) RefusedLeftOut ⌝ }

@@ -1,17 +1,19 @@
 -- What `record` returns and leaves of a stream: the ledger of an accepted one records its packing.
 use mathlib.Core.Path.{_≡_, refl, _∙_}
 use mathlib.Core.List.{List}
-use Prim.Native.Nat.{ℕ, _≤_}
-use lib.ListN.{length, drop}
+use Prim.Native.Nat.{ℕ}
+use lib.ListN.{drop}
 use Rattle.packing.specs.declared.{Opening.Opening, Command.Command, StreamReason.StreamReason, StreamResult.StreamResult}
 use Rattle.packing.specs.Bins.{opened}
 use Rattle.packing.specs.Limits.{mostCommands}
-use Rattle.packing.specs.Streams.{openingLength, openingOf, Read, accepted, refused, verdict}
+use Rattle.packing.specs.Streams.{firstByte, openingOf, Read, accepted, refused, verdict}
 use Rattle.packing.specs.Run.{packing, result}
 use Rattle.packing.specs.Claims.{WholeStream}
 use Rattle.packing.proofs.Tests.{clash}
 use Rattle.packing.proofs.Accepted.{accepted-whole}
 use Rattle.ledger.specs.Records.{Records}
+use Rattle.reader.specs.Reading.{Opened}
+use Rattle.reader.proofs.Openings.{whole-opened}
 use Rattle.stream.specs.Recorded.{Recorded}
 
 -- Accepted, where as many words are lent as there can be commands: the bins opened are counted, and the ledger has them.
@@ -34,11 +36,11 @@ module _ {stream : List ℕ} {ledger : List (List ℕ)} {bins : ℕ} (k : Shelve
   pub shelved-whole : WholeStream stream mostCommands (k .opening) (k .commands)
   shelved-whole = accepted-whole mostCommands (k .opening) (k .commands) stream (k .accepts)
 
-  pub shelved-opening : openingLength ≤ length stream
-  shelved-opening = shelved-whole .opening-whole
+  pub shelved-opening : Opened stream
+  shelved-opening = whole-opened stream mostCommands (k .opening) (k .commands) shelved-whole
 
   -- The opening that is read at the front is the stream's.
-  pub shelved-same : {o : Opening} → o ≡ openingOf (drop 1 stream) → o ≡ k .opening
+  pub shelved-same : {o : Opening} → o ≡ openingOf (firstByte stream) (drop 1 stream) → o ≡ k .opening
   shelved-same e = e ∙ shelved-whole .opening-is
 
 -- Refused: what is returned tells the verdict.

@@ -147,6 +147,68 @@ fn withdrawals() {
     );
 }
 
+// A trailer goes into class, load, free units and 9, and not into 8; one that leaves a unit of the capacity, none, and less than none; a sum of more
+// than 32 bits.
+fn trailers() {
+    show(
+        b"trailer 3\n",
+        b"\x11\0\0\0\x3c\0\x05\x06\0\x03\x02\0\0\0\x39\x02\0\0\0\x3a\x02\0\0\0\0\x02\0\0\0\x12\x02\0\0\0\x11\x02\0\0\0\x16\x02\0\0\0\x1b\x02\0\0\0\x1c\x04\0\x01\x03",
+    );
+    show_sheet(
+        b"sheet, trailer 3\n",
+        b"\x11\0\0\0\x3c\0\x05\x06\0\x03\x02\0\0\0\x39\x02\0\0\0\x3a\x02\0\0\0\0\x02\0\0\0\x12\x02\0\0\0\x11\x02\0\0\0\x16\x02\0\0\0\x1b\x02\0\0\0\x1c\x04\0\x01\x03",
+    );
+    show(
+        b"trailer 59\n",
+        b"\x11\0\0\0\x3c\0\x04\x06\0\x3b\x02\0\0\0\0\x02\0\0\0\x01\x02\0\0\0\x02",
+    );
+    show(
+        b"trailer 60\n",
+        b"\x11\0\0\0\x3c\0\x04\x06\0\x3c\x02\0\0\0\0\x02\0\0\0\x01",
+    );
+    show(
+        b"trailer 65535\n",
+        b"\x11\0\0\0\x3c\0\x04\x06\xff\xff\x02\0\0\0\0\x02\0\0\0\x01\x02\xff\xff\xff\xff",
+    );
+    show(
+        b"trailer 65535, capacity 16777216\n",
+        b"\x11\x01\0\0\0\0\x04\x06\xff\xff\x02\xff\xff\xff\xff\x02\0\xff\0\x02\x02\0\xff\0\x01",
+    );
+}
+
+// An opening with a trailer is longer; behind it stands no opening, nor one of its kind behind the other. Then as many items as there may be.
+fn openings() {
+    show(
+        b"2, byte 08 behind 11\n",
+        b"\x11\0\0\0\x3c\0\x04\x06\0\0\x08",
+    );
+    show(
+        b"3, opening cut to 01's length\n",
+        b"\x11\0\0\0\x3c\0\x04\x06",
+    );
+    show(b"3, trailer cut\n", b"\x11\0\0\0\x3c\0\x04\x06\0");
+    show(
+        b"4, 11 behind 01\n",
+        b"\x01\0\0\0\x3c\0\x04\x06\x11\0\0\0\x3c\0\x04\x06\0\0",
+    );
+    show(
+        b"4, 01 behind 11\n",
+        b"\x11\0\0\0\x3c\0\x04\x06\0\0\x01\0\0\0\x3c\0\x04\x06",
+    );
+    show(
+        b"4 before 3, 11 behind 01\n",
+        b"\x01\0\0\0\x3c\0\x04\x06\x11\0",
+    );
+    show(
+        b"5, all operands 0 but the trailer\n",
+        b"\x11\0\0\0\0\0\0\0\0\x01",
+    );
+    let mut s = [0u8; SPACE];
+    let first = fill(&mut s, 0, 10, b"\x11\0\0\0\x3c\x02\0\x06\0\x01");
+    let most = fill(&mut s, first, 20480, b"\x02\0\0\0\x3b");
+    show_end(b"4096 items of 59 and trailer 1\n", front(&s, most), 20);
+}
+
 // As many commands as there may be, and one more, which is refused with 6 before any other fault of it.
 fn commands() {
     let mut s = [0u8; SPACE];
@@ -222,6 +284,8 @@ fn main() {
     limits();
     answers();
     withdrawals();
+    trailers();
+    openings();
     commands();
     lengths();
     short_sheets();

@@ -20,7 +20,7 @@ use Rattle.packing.proofs.Limits.{within-limits}
 use Rattle.worst_case.proofs.WorstCase.{worst-case-five}
 
 abbrev opening : ℕ → Opening
-opening m = record { capacity = 11; stock = 512; m = m }
+opening m = record { capacity = 11; stock = 512; m = m; trailer = 0 }
 
 -- Sizes of all four classes, and two A that do not go together: five bins.
 abbrev sizes : List ℕ

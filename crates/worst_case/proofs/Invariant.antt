@@ -12,7 +12,7 @@ use Rattle.packing.specs.declared.SizeClass.the-variants.{A, B1, B2, X}
 use Rattle.packing.specs.Prelude.{if_then_else_, any}
 use Rattle.packing.specs.Refusals.{isWithdrawn}
 use Rattle.packing.specs.SizeClasses.{countB2}
-use Rattle.packing.specs.Bins.{Item, Bin, Packing, empty, kind}
+use Rattle.packing.specs.Bins.{Item, Bin, Packing, empty, kind, stored}
 use Rattle.packing.specs.Placing.{Target, toClass, besideA, classOf, targetOf, placed}
 use Rattle.packing.specs.Run.{item, Step}
 use Rattle.packing.specs.Claims.{Bounds}
@@ -124,7 +124,7 @@ module _ (o : Opening) (some : 1 ≤ o .m) where
   trace-kept : {n : ℕ} {p q : Packing} {ts : List Step} → Trace o n p ts q → any isWithdrawn (map (λ t. t .outcome) ts) ≡ false → InvOf p → InvOf q
   unfolding any
   trace-kept ends e h = h
-  trace-kept (moves {n = n} {p = p} (places {s = s} a) r) e h = trace-kept r e (placed-kept p (item n s) h)
+  trace-kept (moves {n = n} {p = p} (places {s = s} a) r) e h = trace-kept r e (placed-kept p (item n (stored o s)) h)
   trace-kept (moves (withdraws x) r) e h = absurd (true≢false e)
   trace-kept (moves counts r) e h = trace-kept r e h
   trace-kept (moves (refuses z) r) e h = trace-kept r e h

@@ -29,13 +29,13 @@ use Rattle.worst_case.proofs.Bound.{Weighed, bound}
 module _ (o : Opening) {q : Packing} {ts : List Step} (r : Trace o 1 empty ts q) (none : any isWithdrawn (map (λ t. t .outcome) ts) ≡ false) where
   -- The sizes of the items that it places.
   abbrev sizes : List ℕ
-  sizes = map (λ e. e .size) (entriesOf ts)
+  sizes = map (λ e. e .size) (entriesOf o ts)
 
   -- The packing weighs what they weigh.
   trace-weighs : (w : ℕ → ℕ) → weightOf (ofSize w) (q .bins) ≡ weigh w sizes
   trace-weighs w =
-      trace-lying o r .weighs (ofSize w) ∙ ap total (sym (map-map (λ e. w (e .size)) entryOf (shelvedBy ts [])))
-      ∙ ap (λ es. total (map (λ e. w (e .size)) es)) (entries-shelved ts [] none) ∙ total-weigh (λ e. e .size) w (entriesOf ts)
+      trace-lying o r .weighs (ofSize w) ∙ ap total (sym (map-map (λ e. w (e .size)) entryOf (shelvedBy o ts [])))
+      ∙ ap (λ es. total (map (λ e. w (e .size)) es)) (entries-shelved o ts [] none) ∙ total-weigh (λ e. e .size) w (entriesOf o ts)
 
   module _ (k : ℕ) (plan : List Entry) (ok : check (o .capacity) k plan sizes ≡ PlanResult.Passed) where
     weighed-plan : (w : ℕ → ℕ) (most : ℕ) → MostInABin w (o .capacity) most → weigh w sizes ≤ most * used plan
@@ -53,7 +53,7 @@ module _ (o : Opening) {q : Packing} {ts : List Step} (r : Trace o 1 empty ts q)
         }
 
     -- The bins of the packing are as many as the greatest number answered.
-    pub trace-five : openingGood o ≡ true → 3 * greatest (map (λ e. e .bin) (entriesOf ts)) ≤ 5 * used plan + 5
+    pub trace-five : openingGood o ≡ true → 3 * greatest (map (λ e. e .bin) (entriesOf o ts)) ≤ 5 * used plan + 5
     trace-five good =
         let m = in-limits o good .m in
         let inv = trace-invariant o (omega arith) r none in

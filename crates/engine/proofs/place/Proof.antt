@@ -1,10 +1,12 @@
--- `place` meets its contract: a size within 1 and the capacity is placed; of the others, 0 is refused first.
+-- `place` meets its contract: a size from 1 to the largest that a bin can hold is placed; of the others, 0 is refused first.
 use mathlib.Core.Path.{_≡_, sym, _∙_}
-use mathlib.Core.Bool.{false, false≢true}
-use Prim.Native.Nat.{ℕ, _<_}
+use mathlib.Core.Bool.{true, false, false≢true}
+use Prim.Native.Nat.{ℕ, _-_, _<_}
 use native.Mathlib.Decide.{decLe}
 use native.Mathlib.Omega.{arith}
 use borrow.Author.Needs.{needs}
+use Rattle.packing.specs.declared.Opening.{Opening}
+use Rattle.packing.specs.Bins.{stored}
 use Rattle.packing.specs.Limits.{within}
 use Rattle.packing.proofs.Limits.{within-limits, limits-within}
 use Rattle.packing.proofs.Decided.{is-zero, is-above, decides}
@@ -12,12 +14,23 @@ use Rattle.engine.proofs.Ways.{refused-so, done-refused}
 use Rattle.engine.proofs.place.Statement.{statement}
 use Rattle.engine.proofs.place.Tie as tie
 
--- A size that is not 0 and not within 1 and the capacity is above the capacity.
-too-large : (capacity size : ℕ) → within 1 capacity size ≡ false → (size ≡ 0 → ⊥) → capacity < size
-too-large capacity size w z = elim (decLe size capacity) [
-  | yes l ↦ absurd (false≢true (sym w ∙ limits-within 1 capacity size (omega (arith, z)) l))
+-- A size that is not 0 and above the largest is above the capacity with its trailer.
+too-large : (o : Opening) (size : ℕ) → within 1 (o .capacity - o .trailer) size ≡ false → (size ≡ 0 → ⊥) → o .capacity < stored o size
+too-large o size w z = elim (decLe size (o .capacity - o .trailer)) [
+  | yes l ↦ absurd (false≢true (sym w ∙ limits-within 1 (o .capacity - o .trailer) size (omega (arith, z)) l))
   | no l ↦ omega (arith, l)
 ]
+
+-- Where the size is tested.
+module _ (c : tie.After-is-within) where
+  abbrev start : tie.Start
+  start = c .before .before
+
+  tested : within 1 (start .args .opening .capacity - start .args .opening .trailer) (start .args .size) ≡ c .is-within .result
+  tested = rw (← c .before .largest .ensures) (sym (c .is-within .ensures))
+
+largest-requires : tie.Need-largest-requires
+largest-requires c κs = search needs
 
 is-within-requires : tie.Need-is-within-requires
 is-within-requires c κs = search needs
@@ -25,8 +38,8 @@ is-within-requires c κs = search needs
 place-fitting-requires : tie.Need-place-fitting-requires
 place-fitting-requires c κs =
     let within = c .before .before .before in
-    let tested = within .before in
-    (tested .before .pre, within-limits 1 _ _ (sym (tested .is-within .ensures) ∙ within .if1 .taken))
+    let size = within-limits 1 _ _ (tested (within .before) ∙ within .if1 .taken) in
+    (start (within .before) .pre, (size .0, omega (arith, size .0, size .1)))
 
 returns : tie.Need-returns
 returns c = search needs
@@ -36,22 +49,22 @@ refuse-requires c κs = search needs
 
 returns-2 : tie.Need-returns-2
 returns-2 c =
-    let start = c .before .before .before .before in
-    rw (c .refuse .ensures) (done-refused (start .pre .sound) (λ p r. refused-so _ p _ _ (decides _ p _ _ (is-zero (c .before .if2 .taken)))))
+    let below = c .before .before in
+    rw (c .refuse .ensures)
+    (done-refused (start (below .before) .pre .sound) (λ p r. refused-so _ p _ _ (decides _ p _ _ _ (is-zero (c .before .if2 .taken)))))
 
 refuse-requires-2 : tie.Need-refuse-requires-2
 refuse-requires-2 c κs = search needs
 
 returns-3 : tie.Need-returns-3
 returns-3 c =
-    let outside = c .before .before in
-    let tested = outside .before in
+    let above = c .before .before in
     let some = c .before .if2 .left in
     rw (c .refuse2 .ensures)
-    (done-refused (tested .before .pre .sound)
-    (λ p r. refused-so _ p _ _ (decides _ p _ _ (is-above (omega (arith, some)) (too-large _ _ (sym (tested .is-within .ensures) ∙ outside .if1 .left) some)))))
+    (done-refused (start (above .before) .pre .sound)
+    (λ p r. refused-so _ p _ _ (decides _ p _ _ _ (is-above (omega (arith, some)) (too-large (start (above .before) .args .opening) _ (tested (above .before) ∙ above .if1 .left) some)))))
 
 pub place-spec : {M : Type 1} → statement M
 place-spec =
     tie.close
-    (tie.spec is-within-requires place-fitting-requires returns refuse-requires returns-2 refuse-requires-2 returns-3)
+    (tie.spec largest-requires is-within-requires place-fitting-requires returns refuse-requires returns-2 refuse-requires-2 returns-3)

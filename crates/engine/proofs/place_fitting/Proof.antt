@@ -4,6 +4,7 @@ use Prim.Native.Nat.{ℕ, _<_}
 use native.Mathlib.Omega.{arith}
 use borrow.Author.Needs.{needs}
 use Rattle.packing.specs.SizeClasses.{sizeClass, numberOf}
+use Rattle.packing.specs.Bins.{stored}
 use Rattle.aim.specs.Aims.{treesWith, treeFor}
 use Rattle.aim.proofs.Aiming.{a-few, home-positive}
 use Rattle.ledger.specs.Rows.{classIn}
@@ -21,26 +22,30 @@ use Rattle.engine.proofs.place_fitting.Tie as tie
 -- Before the search: the item and its tree.
 module _ (e : tie.After-tree-for) where
   abbrev start : tie.Start
-  start = e .before
+  start = e .before .before
 
   sound : Sound (start .args .opening) (start .args .shape) (store (start .args .trees .now) (start .args .ledger .now) (start .args .notes .now) (start .args .counters))
   sound = start .pre .0 .sound
 
+  -- The stored size of the item.
+  abbrev size : ℕ
+  size = stored (start .args .opening) (start .args .size)
+
   -- The tree for the next B2 is that of the phase.
-  tree-is : e .tree-for .result ≡ treeFor (sizeClass (start .args .opening .capacity) (start .args .size)) (start .args .counters .phase) (start .args .opening .m)
+  tree-is : e .tree-for .result ≡ treeFor (sizeClass (start .args .opening .capacity) size) (start .args .counters .phase) (start .args .opening .m)
   tree-is =
       e .tree-for .ensures
-      ∙ ap (λ (b2 : ℕ). numberOf (treesWith b2) (sizeClass (start .args .opening .capacity) (start .args .size))) (sound .b2)
+      ∙ ap (λ (b2 : ℕ). numberOf (treesWith b2) (sizeClass (start .args .opening .capacity) size)) (sound .b2)
 
-  aimed : Aimed (start .args .opening) (start .args .counters) (start .args .size) (e .tree-for .result)
-  aimed = record { some = start .pre .1 .0; fits = start .pre .1 .1; phase = sound .phase; tree = tree-is }
+  aimed : Aimed (start .args .opening) (start .args .counters) size (e .tree-for .result)
+  aimed = record { some = omega (arith, start .pre .1 .0); fits = start .pre .1 .1; phase = sound .phase; tree = tree-is }
 
   -- What the search says of the item, by what it has for it.
   abbrev Said : Offer → Type 0
-  Said = Says (start .args .opening) (start .args .shape) (store (start .args .trees .now) (start .args .ledger .now) (start .args .notes .now) (start .args .counters)) (start .args .number) (start .args .size) (e .tree-for .result)
+  Said = Says (start .args .opening) (start .args .shape) (store (start .args .trees .now) (start .args .ledger .now) (start .args .notes .now) (start .args .counters)) (start .args .number) size (e .tree-for .result)
 
   said : {offer : Offer}
-      → spotFor (start .args .opening) (start .args .shape) (start .args .trees .now) (start .args .counters .opened) (e .tree-for .result) (start .args .size) ≡ offer
+      → spotFor (start .args .opening) (start .args .shape) (start .args .trees .now) (start .args .counters .opened) (e .tree-for .result) size ≡ offer
       → Said offer
   said has = subst Said has (says aimed (start .args .number) sound)
 
@@ -73,6 +78,12 @@ class-few c = rw (c .home-of .ensures) (home-few (aimed (searched (c .before))))
 class-entered : (c : tie.After-enter) → classIn (c .enter .result) ≡ c .before .before .before .before .home-of .result
 class-entered c = ap classIn (c .enter .ensures .row-is)
 
+cast-stored : tie.Need-cast-stored
+cast-stored c = search needs
+
+add-stored : tie.Need-add-stored
+add-stored c = omega (arith, c .before .pre .1 .1, c .before .pre .0 .sound .capacity)
+
 tree-for-requires : tie.Need-tree-for-requires
 tree-for-requires c κs = search needs
 
@@ -91,7 +102,7 @@ refuse-requires : tie.Need-refuse-requires
 refuse-requires c κs = search needs
 
 returns : tie.Need-returns
-returns c = rw (c .refuse .ensures) (done-refused (sound (missed (c .before))) (λ p r. refused-so _ p _ _ (none (c .before) p r)))
+returns c = rw (c .refuse .ensures) (done-refused (sound (missed (c .before))) (λ p r. refused-so _ p _ _ (none (c .before) p r _ (start (missed (c .before)) .pre .1 .0))))
 
 home-of-requires : tie.Need-home-of-requires
 home-of-requires c κs = search needs
@@ -156,10 +167,10 @@ returns-2 c =
     let told = classed .before in
     let e = searched told in
     rw (accepted .accept .ensures)
-    (done-placed (aimed e) (rw (classed .home-of .ensures, marked .a-for .ensures) at (entered .enter .ensures)) (c .show .ensures) (few told) _ (start e .pre .0) (spotted told))
+    (done-placed (start e .pre .1 .0) (aimed e) (rw (classed .home-of .ensures, marked .a-for .ensures) at (entered .enter .ensures)) (c .show .ensures) (few told) _ (start e .pre .0) (spotted told))
 
 pub place-fitting-spec : {M : Type 1} → statement M
 place-fitting-spec =
     tie.close
-    (tie.spec tree-for-requires find-spot-requires enum-known-offer enum-told refuse-requires returns home-of-requires cast-class a-for-requires accept-requires add-bin
+    (tie.spec cast-stored add-stored tree-for-requires find-spot-requires enum-known-offer enum-told refuse-requires returns home-of-requires cast-class a-for-requires accept-requires add-bin
     cast-bin enter-requires cast-lies mul-note element-set-from-note show-requires returns-2)

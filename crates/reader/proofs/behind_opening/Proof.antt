@@ -4,7 +4,7 @@ use Prim.Native.Nat.{ℕ, _+_}
 use native.Mathlib.Omega.{arith}
 use lib.ListN.{drop}
 use borrow.Author.Needs.{needs}
-use Rattle.packing.specs.Streams.{openingWidth, openingLength}
+use Rattle.packing.specs.Streams.{openingWidth, firstByte, openingLength}
 use Rattle.packing.proofs.Walking.{part-is}
 use Rattle.reader.proofs.Openings.{opening-width}
 use Rattle.reader.proofs.behind_opening.Statement.{statement}
@@ -14,7 +14,7 @@ module _ (c : tie.After-table-width) where
   abbrev start : tie.Start
   start = c .before .before .before
 
-  width-is : c .table-width .result ≡ openingWidth
+  width-is : c .table-width .result ≡ openingWidth (firstByte (start .args .stream .now))
   width-is = opening-width _ _ (c .table-width .ensures) (start .pre .first)
 
 shared-slice-read-opcode : tie.Need-shared-slice-read-opcode
@@ -39,7 +39,7 @@ returns : tie.Need-returns
 returns c =
     let t = c .before in
     let s = start t .args .stream .now in
-    let begin : t .table-width .result + 1 ≡ openingLength = omega (arith, width-is t) in
+    let begin : t .table-width .result + 1 ≡ openingLength s = omega (arith, width-is t) in
     part-is s (t .table-width .result + 1) (omega (arith, start t .pre .all)) ∙ ap (λ (k : ℕ). drop k s) begin
 
 pub behind-opening-spec : {M : Type 1} → statement M

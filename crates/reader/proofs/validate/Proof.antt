@@ -1,12 +1,14 @@
 -- `validate` meets its contract: each way out is one of the ways that the opening can be (packing's Openings), and then what `scan` ensures.
 use mathlib.Core.Path.{_≡_, sym, ap, _∙_}
+use mathlib.Core.Bool.{true}
 use mathlib.Core.List.{List}
 use Prim.Native.Nat.{ℕ}
 use native.Mathlib.Omega.{arith}
-use lib.ListN.{drop, getD}
+use lib.ListN.{drop}
 use borrow.Author.Needs.{needs}
+use borrow.Author.Tests.{not-true, not-false}
 use Rattle.packing.specs.Limits.{openingGood}
-use Rattle.packing.specs.Streams.{openingWidth, openingOf}
+use Rattle.packing.specs.Streams.{isOpening, openingWidth, firstByte, openingOf}
 use Rattle.packing.proofs.Openings.{read-none, read-other, read-cut, read-outside, read-good}
 use Rattle.packing.proofs.Walking.{readBehind}
 use Rattle.reader.specs.Reading.{Opened, summary}
@@ -17,21 +19,29 @@ use Rattle.reader.proofs.validate.Tie as tie
 abbrev row : tie.Start → List ℕ
 row s = s .args .stream .now
 
--- Where the first byte is the opening's: its width in the table.
-module _ (c : tie.After-table-width) where
+-- Where the first byte is asked for an opening's.
+module _ (c : tie.After-is-opening) where
   abbrev start : tie.Start
-  start = c .before .before .before .before .before
+  start = c .before .before .before .before
 
-  first : getD (row start) 0 0 ≡ 1
-  first = c .before .if2 .left
+  opens : isOpening (firstByte (row start)) ≡ c .is-opening .result
+  opens = sym (c .is-opening .ensures)
 
-  width-is : c .table-width .result ≡ openingWidth
+-- Where it is: its width in the table.
+module _ (c : tie.After-table-width) where
+  abbrev asked : tie.After-is-opening
+  asked = c .before .before
+
+  first : isOpening (firstByte (row (start asked))) ≡ true
+  first = opens asked ∙ not-false _ (c .before .if2 .left)
+
+  width-is : c .table-width .result ≡ openingWidth (firstByte (row (start asked)))
   width-is = opening-width _ _ (c .table-width .ensures) first
 
 -- Where all of the opening is there.
 module _ (c : tie.Else3) where
   abbrev stream : List ℕ
-  stream = row (start (c .before))
+  stream = row (start (asked (c .before)))
 
   has-opening : Opened stream
   has-opening = record { first = first (c .before); all = omega (arith, width-is (c .before)) }
@@ -41,10 +51,10 @@ module _ (c : tie.After-opening-good) where
   abbrev there : tie.Else3
   there = c .before .before
 
-  opening-is : openingOf (drop 1 (stream there)) ≡ c .before .opening-of .result
+  opening-is : openingOf (firstByte (stream there)) (drop 1 (stream there)) ≡ c .before .opening-of .result
   opening-is = sym (c .before .opening-of .ensures)
 
-  good-is : openingGood (openingOf (drop 1 (stream there))) ≡ c .opening-good .result
+  good-is : openingGood (openingOf (firstByte (stream there)) (drop 1 (stream there))) ≡ c .opening-good .result
   good-is = ap openingGood opening-is ∙ sym (c .opening-good .ensures)
 
 returns : tie.Need-returns
@@ -54,7 +64,10 @@ shared-slice-read-opcode : tie.Need-shared-slice-read-opcode
 shared-slice-read-opcode c = search needs
 
 returns-2 : tie.Need-returns-2
-returns-2 c = sym (ap summary (read-other (row (c .before .before .before .before)) (c .if2 .taken)))
+returns-2 c = sym (ap summary (read-other (row (start (c .before))) (opens (c .before) ∙ not-true _ (c .if2 .taken))))
+
+is-opening-requires : tie.Need-is-opening-requires
+is-opening-requires c κs = search needs
 
 table-width-requires : tie.Need-table-width-requires
 table-width-requires c κs = search needs
@@ -65,10 +78,10 @@ sub-behind c = search needs
 returns-3 : tie.Need-returns-3
 returns-3 c =
     let t = c .before in
-    sym (ap summary (read-cut (row (start t)) (first t) (omega (arith, width-is t))))
+    sym (ap summary (read-cut (row (start (asked t))) (first t) (omega (arith, width-is t))))
 
 opening-of-requires : tie.Need-opening-of-requires
-opening-of-requires c κs = has-opening c .all
+opening-of-requires c κs = has-opening c
 
 opening-good-requires : tie.Need-opening-good-requires
 opening-good-requires c κs = search needs
@@ -93,5 +106,5 @@ returns-5 c =
 pub validate-spec : {M : Type 1} → statement M
 validate-spec =
     tie.close
-    (tie.spec returns shared-slice-read-opcode returns-2 table-width-requires sub-behind returns-3
+    (tie.spec returns shared-slice-read-opcode is-opening-requires returns-2 table-width-requires sub-behind returns-3
     opening-of-requires opening-good-requires scan-requires returns-4 returns-5)

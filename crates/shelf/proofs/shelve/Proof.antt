@@ -4,7 +4,7 @@ use Prim.Native.Nat.{ℕ}
 use borrow.Author.Needs.{needs}
 use Rattle.packing.specs.Refusals.{streamGives}
 use Rattle.packing.specs.Streams.{wordsLent}
-use Rattle.packing.proofs.Theorems.{holds-answered, never-overfull, lowest-permitted, free-units, loads-add-up, withdrawals, answers-in-range, refused-left-out, counts}
+use Rattle.packing.proofs.Theorems.{holds-answered, never-overfull, lowest-permitted, free-units, loads-add-up, by-stored-sizes, withdrawals, answers-in-range, refused-left-out, counts}
 use Rattle.worst_case.proofs.OwnPlan.{own-plan-of-stream}
 use Rattle.worst_case.proofs.WorstCase.{worst-case-of-stream}
 use Rattle.shelf.proofs.shelve.Statement.{statement}
@@ -45,14 +45,17 @@ returns c =
                     (
                       λ o cs e. loads-add-up o cs,
                       (
-                        λ o cs e. withdrawals o cs,
+                        λ o cs e. by-stored-sizes o cs,
                         (
-                          λ o cs e. answers-in-range o cs,
+                          λ o cs e. withdrawals o cs,
                           (
-                            λ o cs e. refused-left-out o cs,
+                            λ o cs e. answers-in-range o cs,
                             (
-                              own-plan-of-stream stream (words s),
-                              worst-case-of-stream stream (words s),
+                              λ o cs e. refused-left-out o cs,
+                              (
+                                own-plan-of-stream stream (words s),
+                                worst-case-of-stream stream (words s),
+                              ),
                             ),
                           ),
                         ),

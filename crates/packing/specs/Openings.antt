@@ -1,0 +1,33 @@
+-- The two openings beside each other: a stream that begins with 01, and the same with 11 and a trailer of 0 in its place; commands under a trailer, and
+-- the same without one, by their stored sizes.
+use Rattle.packing.specs.Prelude.{ℕ, zero, suc, _+_, List, _∷_, _++_, take, drop, _=?_, if_then_else_, Opening, Command, Shelve, Count, Withdraw}
+use Rattle.packing.specs.Bins.{stored}
+use Rattle.packing.specs.Streams.{openingWidth, Read, accepted, refused}
+
+-- The stream that begins with 01, with s behind it.
+abbrev pub withoutTrailer : (s : List ℕ) → List ℕ
+withoutTrailer s = 0x01 ∷ s
+
+-- The same with 11: the operands of 01, two bytes of trailer, and what followed.
+abbrev pub withZeroTrailer : (s : List ℕ) → List ℕ
+withZeroTrailer s = 0x11 ∷ (take (openingWidth 0x01) s ++ 0 ∷ 0 ∷ drop (openingWidth 0x01) s)
+
+-- Where an offset then stands: the opening at 0 still, and every place behind it two bytes later.
+abbrev pub twoLater : (offset : ℕ) → ℕ
+twoLater zero = zero
+twoLater (suc before) = suc before + 2
+
+-- The same reading, with the offset of a refusal where it then stands.
+abbrev pub moved : Read → Read
+moved (accepted o cs) = accepted o cs
+moved (refused reason offset) = refused reason (twoLater offset)
+
+-- The same opening without a trailer.
+abbrev pub noTrailer : Opening → Opening
+noTrailer o = record { capacity = o .capacity; stock = o .stock; m = o .m; trailer = 0 }
+
+-- The same command there: it shelves an item by its stored size, and a size of 0 by 0.
+abbrev pub byStored : Opening → Command → Command
+byStored o (Shelve size) = Shelve (if size =? 0 then 0 else stored o size)
+byStored o Count = Count
+byStored o (Withdraw named) = Withdraw named
