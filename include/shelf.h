@@ -30,13 +30,17 @@
  * a row, a result or a refusal is added or changes. Header and libshelf.a must
  * be of one version: nothing checks it.
  */
-#define SHELF_VERSION 3
+#define SHELF_VERSION 4
 
-/* Limits. Capacity, stock and sizes are at least 1; what is counted may be 0. */
+/*
+ * Limits. Capacity, stock and sizes are at least 1; the trailer, and what is
+ * counted, may be 0.
+ */
 #define SHELF_MAX_CAPACITY 16777216  /* units of a cartridge */
 #define SHELF_MAX_STOCK 512          /* cartridges */
 #define SHELF_MIN_M 6
 #define SHELF_MAX_M 9
+#define SHELF_MAX_TRAILER 65535      /* units; it may be above the capacity */
 #define SHELF_MAX_COMMANDS 4096      /* after the opening */
 #define SHELF_MAX_ENTRIES 4096       /* of a plan; its masters; its k */
 #define SHELF_MAX_SHEET_STREAM 32768 /* bytes of a stream with a sheet */
@@ -76,16 +80,23 @@ extern "C" {
 /*
  * Shelves a stream of commands.
  *
- * stream       stream_len bytes, only read. A command is one byte and its
- *              operands, unsigned, most significant byte first:
+ * stream       stream_len bytes, only read. A command is one byte, given in hex,
+ *              and its operands, unsigned, most significant byte first:
  *                  01  capacity (4 bytes), stock (2), m (1)   opening
+ *                  11  the same, and then the trailer (2)     opening
  *                  02  size (4 bytes)                         shelve a master
  *                  03                                         count cartridges
  *                  04  command number (2 bytes)               take a master out
- *              The opening is the first command and comes once. The commands
- *              after it are numbered from 1.
+ *              The first command is an opening, of either kind, and there is no
+ *              other. The commands after it are numbered from 1.
  * answers      answers_len words.
  * free_units   free_len words.
+ *
+ * The trailer is the units that the cartridges' format writes after each master;
+ * a stream opened with 01 has a trailer of 0. A master's stored size is its size
+ * plus the trailer, exact also where it passes 32 bits. That is what the master
+ * takes up: where it goes and whether it fits, a cartridge's load and its free
+ * units all go by stored sizes. Only the refusal of a size of 0 does not.
  *
  * If the stream is accepted, the result is
  *     masters still shelved * 2^16 + cartridges opened
@@ -94,8 +105,8 @@ extern "C" {
  * emptied or not. answers[n - 1] holds the answer to command n:
  *     to 02   the number of the cartridge the master lies in, 1 to the stock;
  *             cartridges are numbered in order of opening; or
- *             32768 + 8    the size is 0
- *             32768 + 9    the size is above the capacity
+ *             32768 + 8    the size, without the trailer, is 0
+ *             32768 + 9    the stored size is above the capacity
  *             32768 + 10   a new cartridge is called for, and the stock is spent
  *             of these the first that applies; a refused master leaves the
  *             shelf as it was, and the stream goes on
@@ -120,10 +131,11 @@ extern "C" {
  * one command the order is 1, 6, 2, 4, 3, 5, and 7 comes last of all.
  *     number  offset                    condition
  *     1       0                         the stream is empty, or its first byte
- *                                       is not 01
- *     2       of the command byte       the command byte is not 01, 02, 03 or 04
+ *                                       is neither 01 nor 11
+ *     2       of the command byte       the byte is none of 01, 02, 03, 04, 11
  *     3       of the command byte       operands cut short by the stream's end
- *     4       of the command byte       a second 01, cut short or not
+ *     4       of the command byte       a second opening, of either kind, cut
+ *                                       short or not
  *     5       0                         capacity, stock or m of the opening
  *                                       outside its limits
  *     6       of the 4097th command     more than 4096 commands after the
@@ -157,7 +169,8 @@ uint64_t shelf_stream(const uint8_t *stream, size_t stream_len,
  *     columns     1-4     6-8          others
  *     holds       PAGE    page number  spaces
  * with pages numbered from 1. Where nothing is opened there is no line. Load and
- * masters held are of the masters still shelved: the loads add up to their sizes.
+ * masters held are of the masters still shelved: the loads add up to the stored
+ * sizes of these.
  *
  * Where there is no sheet, the text is one line, not filled up:
  *     X number offset     the stream is refused, as by shelf_stream with rows of
@@ -168,7 +181,8 @@ uint64_t shelf_sheet(const uint8_t *stream, size_t stream_len, uint8_t *sheet);
 
 /*
  * Checks that a plan packs the given masters, in their order, into cartridges
- * numbered 1 to k. Nothing is written.
+ * numbered 1 to k. Nothing is written. Sizes are taken as they are given: those
+ * of a shelf's own masters, in the plan and in the list, must be stored sizes.
  *
  * sizes, bins  the plan: entry i is the size sizes[i] in the cartridge bins[i],
  *              for i below the lesser of sizes_len and bins_len. Elements that
@@ -274,7 +288,7 @@ static inline const char *shelf_refusal_name(uint32_t number)
     case SHELF_REFUSAL_SIZE_ZERO:
         return "size 0";
     case SHELF_REFUSAL_SIZE_ABOVE_CAPACITY:
-        return "size above the capacity";
+        return "size and trailer above the capacity";
     case SHELF_REFUSAL_STOCK_SPENT:
         return "a new cartridge is called for and the stock is spent";
     case SHELF_REFUSAL_CAPACITY_OUTSIDE_LIMITS:

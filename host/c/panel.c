@@ -1,18 +1,18 @@
-/* A panel's round: open a shelf, shelve, take a master out again, read the
- * answers, print the vault sheet, check a plan. */
+/* A panel's round: open a shelf for masters with trailers, shelve, take a master
+ * out again, read the answers, print the vault sheet, check a plan. */
 
 #include <inttypes.h>
 #include <stdio.h>
 
 #include "shelf.h"
 
-enum { CAPACITY = 60, STOCK = 4, M = 6 };
+enum { CAPACITY = 60, STOCK = 4, M = 6, TRAILER = 1 };
 enum { MASTERS = 9, WITHDRAWALS = 2, COMMANDS = MASTERS + 1 + WITHDRAWALS };
 
-static const uint32_t masters[MASTERS] = {35, 22, 22, 22, 22, 22, 22, 20, 61};
+static const uint32_t masters[MASTERS] = {34, 21, 21, 21, 21, 21, 21, 19, 60};
 static const uint16_t withdrawals[WITHDRAWALS] = {3, 8};
 
-static uint8_t stream[8 + 5 * COMMANDS];
+static uint8_t stream[10 + 5 * COMMANDS];
 static size_t length;
 
 /* Appends a number of so many bytes, most significant first. */
@@ -64,10 +64,11 @@ int main(void)
     uint64_t result;
     uint32_t refusal, opened;
 
-    put(0x01, 1);
+    put(0x11, 1);
     put(CAPACITY, 4);
     put(STOCK, 2);
     put(M, 1);
+    put(TRAILER, 2);
     for (i = 0; i < MASTERS; i++) {
         put(0x02, 1);
         put(masters[i], 4);
@@ -102,10 +103,11 @@ int main(void)
            shelf_items(result), opened);
     print_sheet();
 
-    /* The masters still shelved and where they lie are a plan of their own. */
+    /* The masters still shelved, in their stored sizes, and where they lie are a
+     * plan of their own. */
     for (i = 0; i < MASTERS; i++)
         if (shelved[i]) {
-            sizes[entries] = masters[i];
+            sizes[entries] = masters[i] + TRAILER;
             bins[entries] = answers[i];
             entries++;
         }
@@ -113,7 +115,7 @@ int main(void)
            shelf_check_plan(sizes, entries, bins, entries, sizes, entries,
                             CAPACITY, opened));
 
-    /* Moving the first 22 beside the 35 and another 22 overfills cartridge 1. */
+    /* Moving the first 21 beside the 34 and another 21 overfills cartridge 1. */
     bins[1] = 1;
     report("a crowded plan",
            shelf_check_plan(sizes, entries, bins, entries, sizes, entries,

@@ -6,8 +6,8 @@
 #include "shelf.h"
 #include "shelf.h"
 
-#if SHELF_VERSION != 3
-#error "these are the checks of version 3"
+#if SHELF_VERSION != 4
+#error "these are the checks of version 4"
 #endif
 
 #if SHELF_MIN_M > SHELF_MAX_M || SHELF_MAX_CAPACITY < SHELF_MAX_SHEET_STREAM
@@ -25,7 +25,7 @@ int check_header(void)
 {
     const uint64_t accepted = 0x0000000010000200u;
     const uint64_t with_more = 0x7fffffff10000200u;
-    const uint64_t no_words = 0x8000000700005008u;
+    const uint64_t no_words = 0x800000070000500au;
     const uint64_t last_plan = 0x80000010ffffffffu;
     static const uint16_t figures[] = {0, 1, SHELF_MAX_STOCK, 0x7fff};
     uint32_t number, other;
@@ -44,7 +44,7 @@ int check_header(void)
 
     CHECK(shelf_is_refused(no_words));
     CHECK(shelf_refusal(no_words) == SHELF_REFUSAL_TOO_FEW_WORDS);
-    CHECK(shelf_place(no_words) == 20488);
+    CHECK(shelf_place(no_words) == 10 + 5 * SHELF_MAX_COMMANDS);
 
     CHECK(!shelf_is_refused(0) && shelf_refusal(0) == 0);
     CHECK(shelf_is_refused(last_plan));

@@ -17,15 +17,21 @@ int check_header();
 
 namespace {
 
+typedef std::vector<uint8_t> bytes;
+
 // A capacity of 60, a stock of 1, m 6; masters of 35 and of 40, a count, and
 // the withdrawal of either.
-const std::vector<uint8_t> stream = {1, 0, 0, 0, 60, 0, 1, 6, 2, 0, 0, 0, 35,
-                                     2, 0, 0, 0, 40, 3, 4, 0, 1, 4, 0, 2};
+const bytes stream = {1, 0, 0, 0, 60, 0, 1, 6, 2, 0, 0, 0, 35,
+                      2, 0, 0, 0, 40, 3, 4, 0, 1, 4, 0, 2};
+// The same stored sizes, with a trailer of 5.
+const bytes trailers = {0x11, 0, 0, 0, 60, 0, 1, 6, 0, 5, 2, 0, 0, 0, 30,
+                        2,    0, 0, 0, 35, 3, 4, 0, 1, 4, 0, 2};
 
-uint64_t shelve(std::vector<uint16_t> &answers, std::vector<uint32_t> &free_units)
+uint64_t shelve(const bytes &sent, std::vector<uint16_t> &answers,
+                std::vector<uint32_t> &free_units)
 {
-    return shelf_stream(stream.data(), stream.size(), answers.data(),
-                        answers.size(), free_units.data(), free_units.size());
+    return shelf_stream(sent.data(), sent.size(), answers.data(), answers.size(),
+                        free_units.data(), free_units.size());
 }
 
 uint64_t check_plan(const std::vector<uint32_t> &sizes, uint32_t bin)
@@ -48,7 +54,7 @@ int check_header()
 {
     std::vector<uint16_t> answers(SHELF_MAX_COMMANDS, 7);
     std::vector<uint32_t> free_units(SHELF_MAX_COMMANDS, 7);
-    uint64_t result = shelve(answers, free_units);
+    uint64_t result = shelve(stream, answers, free_units);
 
     CHECK(!shelf_is_refused(result));
     CHECK(shelf_items(result) == 0 && shelf_opened(result) == 1);
@@ -62,8 +68,13 @@ int check_header()
     CHECK(free_units[4] == 0);
     CHECK(answers[5] == 7 && free_units[5] == 7);
 
+    std::vector<uint16_t> other_answers(SHELF_MAX_COMMANDS, 7);
+    std::vector<uint32_t> other_units(SHELF_MAX_COMMANDS, 7);
+    CHECK(shelve(trailers, other_answers, other_units) == result);
+    CHECK(other_answers == answers && other_units == free_units);
+
     free_units.resize(4);
-    result = shelve(answers, free_units);
+    result = shelve(stream, answers, free_units);
     CHECK(shelf_refusal(result) == SHELF_REFUSAL_TOO_FEW_WORDS);
     CHECK(shelf_place(result) == stream.size());
     CHECK(in_words(shelf_refusal, result) ==

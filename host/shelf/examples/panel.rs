@@ -1,5 +1,5 @@
-//! A panel's round: open a shelf, shelve, take a master out again, read the
-//! answers, print the vault sheet, check a plan.
+//! A panel's round: open a shelf for masters with trailers, shelve, take a master
+//! out again, read the answers, print the vault sheet, check a plan.
 
 use std::collections::BTreeMap;
 
@@ -7,8 +7,9 @@ use shelf::{Answer, Command, Entry, StreamBuilder};
 
 fn main() {
     const CAPACITY: u32 = 60;
-    let mut stream = StreamBuilder::open(CAPACITY, 4, 6);
-    for size in [35, 22, 22, 22, 22, 22, 22, 20, 61] {
+    const TRAILER: u16 = 1;
+    let mut stream = StreamBuilder::open_with_trailer(CAPACITY, 4, 6, TRAILER);
+    for size in [34, 21, 21, 21, 21, 21, 21, 19, 60] {
         stream.shelve(size);
     }
     stream.count().withdraw(3).withdraw(8);
@@ -22,12 +23,14 @@ fn main() {
         }
     };
 
-    // The masters still shelved, by command, and where they lie.
+    // The masters still shelved, by command: their stored sizes, and where they
+    // lie.
     let mut shelved = BTreeMap::new();
     for (command, answered) in (1..).zip(shelf::answers(stream.bytes(), &words, &free)) {
         match answered {
             (Command::Shelve { size }, Answer::Placed { bin, free }) => {
                 println!("master of {size}: cartridge {bin}, {free} free");
+                let size = size + u32::from(TRAILER);
                 let bin = bin.into();
                 shelved.insert(command, Entry { size, bin });
             }
@@ -56,7 +59,7 @@ fn main() {
         Err(refusal) => println!("the shelf's own plan: {refusal}"),
     }
 
-    // Moving the first 22 beside the 35 and another 22 overfills cartridge 1.
+    // Moving the first 21 beside the 34 and another 21 overfills cartridge 1.
     plan[1].bin = 1;
     match shelf::check_plan(&plan, &items, CAPACITY, totals.opened.into()) {
         Ok(()) => println!("a crowded plan: passed"),

@@ -27,6 +27,11 @@
 //! The number of a bin is its place in the order of opening, from 1. A bin that
 //! is emptied stays opened and is chosen again like any other of its class.
 //! Refusals keep the numbers 1 to 17 of the specification; `number` gives them.
+//!
+//! Where a trailer is written after each item, the opening has its length
+//! ([`StreamBuilder::open_with_trailer`]). An item then takes up its stored size
+//! ([`Opening::stored`]): its bin, the loads, the free units and the shelf's own
+//! plan go by that.
 
 mod refusals;
 mod results;
@@ -45,6 +50,8 @@ pub const MAX_STOCK: u16 = 512;
 pub const MIN_M: u8 = 6;
 /// The largest `m`.
 pub const MAX_M: u8 = 9;
+/// The longest trailer, which may be above the capacity.
+pub const MAX_TRAILER: u16 = 65_535;
 /// The most commands that may follow the opening.
 pub const MAX_COMMANDS: usize = 4_096;
 /// The most entries of a plan, the most items it is checked against, and the
@@ -198,6 +205,8 @@ pub fn write_sheet(stream: &[u8], sheet: &mut [u8; SHEET_BYTES]) -> usize {
 
 /// Checks that `plan` packs `items`, in their order, into bins numbered 1 to
 /// `k` of the given capacity. A `k` larger than the bins used is permitted.
+/// Sizes are taken as they are given: those of a shelf's own items must be
+/// stored sizes ([`Opening::stored`]), in `plan` and in `items`.
 ///
 /// ```
 /// use shelf::{Entry, PlanFault};

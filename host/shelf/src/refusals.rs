@@ -56,7 +56,7 @@ refusals! {
     /// withdrawal. It changes nothing, and the stream goes on after it.
     CommandRefusal {
         SizeZero = 8 "size 0"
-        SizeAboveCapacity = 9 "size above the capacity"
+        SizeAboveCapacity = 9 "size and trailer above the capacity"
         StockSpent = 10 "a new cartridge is called for and the stock is spent"
         NotShelved = 17 "no master of that number is on the shelf"
     }

@@ -12,7 +12,7 @@ pub struct Row {
     pub number: u16,
     /// Its class, 1 to 4.
     pub class: u8,
-    /// The sizes of its items, added up.
+    /// The stored sizes of its items, added up.
     pub load: u32,
     /// The units left free: capacity less load.
     pub free: u32,

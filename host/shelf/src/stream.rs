@@ -6,11 +6,10 @@ use std::slice::Iter;
 use crate::CommandRefusal;
 
 const OPEN: u8 = 0x01;
+const OPEN_WITH_TRAILER: u8 = 0x11;
 const SHELVE: u8 = 0x02;
 const COUNT: u8 = 0x03;
 const WITHDRAW: u8 = 0x04;
-
-const OPENING_LEN: usize = 8;
 
 /// An answer word with this bit carries a refusal's number.
 const REFUSED: u16 = 0x8000;
@@ -24,28 +23,61 @@ pub struct Opening {
     pub stock: u16,
     /// Every `m`-th B2 item goes beside an A item.
     pub m: u8,
+    /// The units written after each item; 0 in a stream without trailers.
+    pub trailer: u16,
 }
 
 impl Opening {
-    /// The opening that a stream starts with, within its limits or not.
+    /// The opening that a stream starts with, of either kind, within its limits
+    /// or not.
     ///
     /// ```
     /// use shelf::{Opening, StreamBuilder};
     ///
     /// let stream = StreamBuilder::open(60, 4, 6);
-    /// let opening = Opening { capacity: 60, stock: 4, m: 6 };
+    /// let opening = Opening { capacity: 60, stock: 4, m: 6, trailer: 0 };
     /// assert_eq!(Opening::read(stream.bytes()), Some(opening));
     /// assert_eq!(Opening::read(&stream.bytes()[..7]), None);
+    ///
+    /// let stream = StreamBuilder::open_with_trailer(60, 4, 6, 3);
+    /// let opening = Opening { trailer: 3, ..opening };
+    /// assert_eq!(Opening::read(stream.bytes()), Some(opening));
     /// ```
     pub fn read(stream: &[u8]) -> Option<Self> {
-        let [OPEN, a, b, c, d, e, f, m, ..] = *stream else {
-            return None;
+        Self::split(stream).map(|(opening, _commands)| opening)
+    }
+
+    /// The opening, and the commands after it.
+    fn split(stream: &[u8]) -> Option<(Self, &[u8])> {
+        let (&[byte, a, b, c, d, e, f, m], rest) = stream.split_first_chunk()?;
+        let (trailer, commands) = match byte {
+            OPEN => (0, rest),
+            OPEN_WITH_TRAILER => {
+                let (&trailer, commands) = rest.split_first_chunk()?;
+                (u16::from_be_bytes(trailer), commands)
+            }
+            _ => return None,
         };
-        Some(Self {
+        let opening = Self {
             capacity: u32::from_be_bytes([a, b, c, d]),
             stock: u16::from_be_bytes([e, f]),
             m,
-        })
+            trailer,
+        };
+        Some((opening, commands))
+    }
+
+    /// The stored size of an item: what it takes up on its bin, the trailer
+    /// included. It may pass 32 bits; of an item on the shelf it is at most the
+    /// capacity.
+    ///
+    /// ```
+    /// let opening = shelf::Opening { capacity: 60, stock: 4, m: 6, trailer: 3 };
+    /// assert_eq!(opening.stored(22), 25);
+    /// assert_eq!(opening.stored(u32::MAX), 4_294_967_298);
+    /// ```
+    pub fn stored(&self, size: u32) -> u64 {
+        u64::from(size) + u64::from(self.trailer)
     }
 }
 
@@ -70,14 +102,32 @@ impl StreamBuilder {
     /// A stream with its opening: the capacity of a bin, the stock of bins,
     /// and `m` (every `m`-th B2 item goes beside an A item).
     pub fn open(capacity: u32, stock: u16, m: u8) -> Self {
-        let mut bytes = vec![OPEN];
+        Self::start(OPEN, capacity, stock, m)
+    }
+
+    /// The same, where so many units are written after each item: it takes up
+    /// its [stored size](Opening::stored), by which it is placed or refused.
+    ///
+    /// ```
+    /// let mut stream = shelf::StreamBuilder::open_with_trailer(60, 4, 6, 3);
+    /// stream.shelve(35);
+    /// assert_eq!(stream.bytes(), [0x11, 0, 0, 0, 60, 0, 4, 6, 0, 3, 2, 0, 0, 0, 35]);
+    /// ```
+    pub fn open_with_trailer(capacity: u32, stock: u16, m: u8, trailer: u16) -> Self {
+        let mut stream = Self::start(OPEN_WITH_TRAILER, capacity, stock, m);
+        stream.bytes.extend(trailer.to_be_bytes());
+        stream
+    }
+
+    fn start(byte: u8, capacity: u32, stock: u16, m: u8) -> Self {
+        let mut bytes = vec![byte];
         bytes.extend(capacity.to_be_bytes());
         bytes.extend(stock.to_be_bytes());
         bytes.push(m);
         Self { bytes, commands: 0 }
     }
 
-    /// Shelve an item of this size.
+    /// Shelve an item of this size. A trailer is not part of it.
     pub fn shelve(&mut self, size: u32) -> &mut Self {
         self.bytes.push(SHELVE);
         self.bytes.extend(size.to_be_bytes());
@@ -139,7 +189,7 @@ pub enum Answer {
         bin: u16,
         /// The units left free on the bin just after the item. Until another
         /// command is answered this bin, an item that is permitted there fits
-        /// exactly if its size is at most this.
+        /// exactly if its stored size is at most this.
         free: u32,
     },
     /// The item was taken out of this bin.
@@ -196,7 +246,7 @@ impl Answer {
             Command::Shelve { .. } => {
                 return (word != 0).then_some(Self::Placed { bin: word, free });
             }
-            // The units that the item had are free at least.
+            // The units that the item took up are free at least.
             Command::Withdraw { .. } => {
                 return (word != 0 && free != 0).then_some(Self::Withdrawn { bin: word, free });
             }
@@ -210,7 +260,7 @@ impl Answer {
 pub enum Command {
     /// Shelve an item.
     Shelve {
-        /// The item's size.
+        /// The item's size, without a trailer.
         size: u32,
     },
     /// Ask how many bins are opened.
@@ -223,7 +273,8 @@ pub enum Command {
 }
 
 /// The commands after the opening, each with the offset of its byte. They end
-/// at the first one that is unknown or cut short.
+/// at the first one that is unknown or cut short; without an opening there are
+/// none.
 ///
 /// ```
 /// use shelf::{Command, StreamBuilder};
@@ -238,9 +289,10 @@ pub enum Command {
 /// ]);
 /// ```
 pub fn commands(stream: &[u8]) -> Commands<'_> {
+    let rest = Opening::split(stream).map_or(&[][..], |(_opening, commands)| commands);
     Commands {
-        offset: OPENING_LEN,
-        rest: stream.get(OPENING_LEN..).unwrap_or(&[]),
+        offset: stream.len() - rest.len(),
+        rest,
     }
 }
 
@@ -352,6 +404,26 @@ mod tests {
         let words = [(3, 1), (3, 0), (0, 1)];
         let withdrawn = Answer::Withdrawn { bin: 3, free: 1 };
         assert_eq!(read(withdraw, &words), [Some(withdrawn), None, None]);
+    }
+
+    #[test]
+    fn either_opening_is_read_whole_or_not_at_all() {
+        let mut plain = StreamBuilder::open(60, 4, 6);
+        let mut with_trailer = StreamBuilder::open_with_trailer(60, 4, 6, 0x1234);
+        for (stream, len, trailer) in [(&mut plain, 8, 0), (&mut with_trailer, 10, 0x1234)] {
+            let bytes = stream.count().bytes();
+            assert_eq!(commands(bytes).next(), Some((len, Command::Count)));
+            for end in 0..=bytes.len() {
+                let read = Opening::read(&bytes[..end]);
+                let trailer = (end >= len).then_some(trailer);
+                assert_eq!(read.map(|opening| opening.trailer), trailer);
+                let commands = commands(&bytes[..end]).count();
+                assert_eq!(commands, usize::from(end > len));
+            }
+        }
+        let other = [&[0x10], &with_trailer.bytes()[1..]].concat();
+        assert_eq!(Opening::read(&other), None);
+        assert_eq!(commands(&other).next(), None);
     }
 
     #[test]

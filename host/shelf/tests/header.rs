@@ -32,6 +32,7 @@ fn the_limits_are_the_same() {
         ("MAX_STOCK", shelf::MAX_STOCK.into()),
         ("MIN_M", shelf::MIN_M.into()),
         ("MAX_M", shelf::MAX_M.into()),
+        ("MAX_TRAILER", shelf::MAX_TRAILER.into()),
         ("MAX_COMMANDS", shelf::MAX_COMMANDS),
         ("MAX_ENTRIES", shelf::MAX_ENTRIES),
         ("MAX_SHEET_STREAM", shelf::MAX_SHEET_STREAM),
