@@ -6,11 +6,13 @@ use crate::compare::{by_library, by_paper, plan_by_library, verdict, Outcome};
 use crate::families::{self, Family};
 use crate::figures;
 use crate::free_cases;
+use crate::lists::most_trailer;
 use crate::paper::{size_class, SizeClass, Totals};
 use crate::plans::PlanTrial;
 use crate::rows::{self, Lent};
 use crate::sheet_cases;
 use crate::streams::StreamTrial;
+use crate::trailer_cases;
 use crate::walk::Program;
 use crate::walk_cases;
 use crate::wire::Command::{self, Count, Shelve, Withdraw};
@@ -18,8 +20,30 @@ use crate::wire::{opening, refuse, refused_word as r, Opening, Refusal, Stream, 
 use crate::withdrawal_cases;
 use crate::written;
 
-/// The opening of the streams that are refused for another fault.
-const OPEN: Opening = opening(60, 4, 6);
+/// The openings of the streams that are refused for another fault.
+const OPENINGS: [Opening; 2] = [opening(60, 4, 6), opening(60, 4, 6).with_trailer(5)];
+
+/// A stream, and all that it comes to.
+pub struct Case {
+    pub name: &'static str,
+    pub opening: Opening,
+    /// Each command with its word in either row.
+    pub answered: &'static [(Command, u16, u32)],
+    /// The items still shelved.
+    pub items: usize,
+    /// The class, the load and the items held of each bin on the sheet.
+    pub bins: &'static [(u32, u32, u32)],
+}
+
+impl Case {
+    pub fn commands(&self) -> Vec<Command> {
+        self.answered.iter().map(|&(sent, ..)| sent).collect()
+    }
+
+    pub fn stream(&self) -> Vec<u8> {
+        sent(self.opening, &self.commands())
+    }
+}
 
 /// Collects what went wrong, by the name of the case.
 #[derive(Default)]
@@ -84,6 +108,16 @@ impl Cases {
             let expected = Outcome::accepted(&trial, Totals { items, opened }, words, free);
             self.both(name, &trial, &expected);
         }
+    }
+
+    /// This case's stream, or another that comes to the same.
+    pub fn shelved(&mut self, case: &Case, stream: &[u8]) {
+        let words: Vec<u16> = case.answered.iter().map(|&(_, word, _)| word).collect();
+        let free: Vec<u32> = case.answered.iter().map(|&(.., free)| free).collect();
+        let totals = (case.items, case.bins.len());
+        self.answered(case.name, stream, (&words, &free), totals);
+        let sheet = sheet_cases::sheet(case.opening.capacity, case.bins);
+        self.sheet(case.name, stream.to_vec(), &sheet);
     }
 
     /// The same by the answer words: the free units follow by subtraction.
@@ -172,9 +206,13 @@ pub fn run(program: Option<&Program>) -> Result<Cases, String> {
     worked_shelves(&mut cases);
     theorem_1(&mut cases);
     misleading_readings(&mut cases);
-    faulty_commands(&mut cases);
-    openings(&mut cases);
-    numbers_of_commands(&mut cases);
+    for opening in OPENINGS {
+        faulty_commands(&mut cases, opening);
+        numbers_of_commands(&mut cases, opening);
+    }
+    for trailer in [None, Some(0), Some(60), Some(u16::MAX)] {
+        openings(&mut cases, trailer);
+    }
     item_refusals(&mut cases);
     plan_limits(&mut cases);
     plan_entries(&mut cases);
@@ -183,6 +221,7 @@ pub fn run(program: Option<&Program>) -> Result<Cases, String> {
     sheet_cases::run(&mut cases);
     walk_cases::run(&mut cases, program)?;
     withdrawal_cases::run(&mut cases);
+    trailer_cases::run(&mut cases);
     Ok(cases)
 }
 
@@ -306,19 +345,33 @@ fn misleading_readings(cases: &mut Cases) {
 }
 
 /// Refusals 1 to 4.
-fn faulty_commands(cases: &mut Cases) {
-    let (open, zeros) = (OPEN.bytes(), opening(0, 0, 0).bytes());
+fn faulty_commands(cases: &mut Cases, opening: Opening) {
+    let outside = Opening {
+        capacity: 0,
+        stock: 0,
+        m: 0,
+        ..opening
+    };
     let (size, out) = (Shelve(22).bytes(), Withdraw(1).bytes());
-    let counted = sent(OPEN, &[Count]);
-    let shelved = sent(OPEN, &[Shelve(22)]);
+    let counted = sent(opening, &[Count]);
+    let shelved = sent(opening, &[Shelve(22)]);
 
     cases.refused("refusal 1: empty", 1, &[], &[], 4);
     cases.refused("refusal 1: starts with 02", 1, &[], &size, 4);
     let name = "refusal 1: starts with an unknown byte";
     cases.refused(name, 1, &[], &[0xFF], 0);
-    cases.refused("refusal 2: 00", 2, &open, &[0x00], 4);
-    cases.refused("refusal 2: 05", 2, &shelved, &[0x05], 4);
-    cases.refused("refusal 2: FF", 2, &counted, &[0xFF], 4);
+    let mut other = opening.bytes();
+    for first in [0x00, 0x02, 0x03, 0x04, 0x0B, 0x10, 0x12, 0x91, 0xFF] {
+        other[0] = first;
+        let name = "refusal 1: another byte before the operands of an opening";
+        cases.refused(name, 1, &[], &other, 4);
+    }
+    for byte in [0x00, 0x05, 0x0B, 0x10, 0x12, 0x81, 0x91, 0xFF] {
+        let name = format!("refusal 2: {byte:02X}");
+        cases.refused(&name, 2, &opening.bytes(), &[byte], 4);
+        cases.refused(&name, 2, &shelved, &[byte, 0x03], 4);
+        cases.refused(&name, 2, &counted, &[byte], 4);
+    }
     for cut in 1..size.len() {
         let name = "refusal 3: a size cut short";
         cases.refused(name, 3, &counted, &size[..cut], 4);
@@ -327,23 +380,28 @@ fn faulty_commands(cases: &mut Cases) {
         let name = "refusal 3: a withdrawal cut short";
         cases.refused(name, 3, &shelved, &out[..cut], 4);
     }
-    for cut in 1..zeros.len() {
+    for cut in 1..opening.bytes().len() {
+        let name = "refusal 3: an opening cut short";
+        cases.refused(name, 3, &[], &opening.bytes()[..cut], 4);
         let name = "refusal 3 before 5: an opening cut short";
-        cases.refused(name, 3, &[], &zeros[..cut], 4);
+        cases.refused(name, 3, &[], &outside.bytes()[..cut], 4);
     }
-    cases.refused("refusal 4", 4, &counted, &open, 4);
-    for cut in 1..open.len() {
-        let name = "refusal 4 before 3: a second opening cut short";
-        cases.refused(name, 4, &shelved, &open[..cut], 4);
+    for second in OPENINGS.map(|opening| opening.bytes()) {
+        cases.refused("refusal 4", 4, &counted, &second, 4);
+        cases.refused("refusal 4 at once", 4, &opening.bytes(), &second, 4);
+        for cut in 1..second.len() {
+            let name = "refusal 4 before 3: a second opening cut short";
+            cases.refused(name, 4, &shelved, &second[..cut], 4);
+        }
+        let faults = [&second[..], &[0x07]].concat();
+        cases.refused("the first faulty command decides", 4, &counted, &faults, 4);
     }
     let name = "refusal 4 before 5: a second opening outside its limits";
-    cases.refused(name, 4, &open, &zeros, 4);
-    let faults = [&open[..], &[0x07]].concat();
-    cases.refused("the first faulty command decides", 4, &counted, &faults, 4);
+    cases.refused(name, 4, &opening.bytes(), &outside.bytes(), 4);
 }
 
-/// Refusal 5.
-fn openings(cases: &mut Cases) {
+/// Refusal 5, which is not for a trailer.
+fn openings(cases: &mut Cases, trailer: Option<u16>) {
     let outside = [
         (0, 4, 6),
         (16_777_217, 4, 6),
@@ -356,44 +414,52 @@ fn openings(cases: &mut Cases) {
         (60, 4, 0),
         (60, 4, 255),
     ];
-    for (capacity, stock, m) in outside {
-        let mut faults = opening(capacity, stock, m).bytes();
+    let bytes = |(capacity, stock, m)| {
+        let opening = opening(capacity, stock, m);
+        Opening { trailer, ..opening }.bytes()
+    };
+    for outside in outside {
+        let mut faults = bytes(outside);
         faults.push(0xFF);
         cases.refused("refusal 5, before a later fault", 5, &[], &faults, 0);
     }
-    for opening in [opening(1, 1, 6), opening(16_777_216, 512, 9)] {
-        cases.accepted("an opening at its limits", &opening.bytes(), &[], (0, 0));
+    for good in [(1, 1, 6), (16_777_216, 512, 9)] {
+        cases.accepted("an opening at its limits", &bytes(good), &[], (0, 0));
     }
 }
 
 /// Refusals 6 and 7.
-fn numbers_of_commands(cases: &mut Cases) {
-    let ones = sent(opening(16_777_216, 1, 6), &[Shelve(1); 4096]);
-    let name = "4,096 masters in one cartridge";
-    cases.accepted(name, &ones, &[1; 4096], (4096, 1));
-
-    let full = sent(OPEN, &[Count; 4096]);
+fn numbers_of_commands(cases: &mut Cases, opening: Opening) {
+    let full = sent(opening, &[Count; 4096]);
     cases.accepted("4,096 commands", &full, &[0; 4096], (0, 0));
 
-    let (open, size, count) = (OPEN.bytes(), Shelve(22).bytes(), Count.bytes());
-    let out = Withdraw(1).bytes();
-    let whole = [&count, &size, &out, &open].map(|bytes| &bytes[..]);
-    let cut = [&[0xFF], &open[..1], &size[..1], &out[..1], &out[..2]];
+    let (size, count, out) = (Shelve(22).bytes(), Count.bytes(), Withdraw(1).bytes());
+    let [by_01, by_11] = OPENINGS.map(|opening| opening.bytes());
+    let whole = [&count, &size, &out, &by_01, &by_11].map(|bytes| &bytes[..]);
+    let cut = [
+        &[0xFF],
+        &by_01[..1],
+        &by_11[..1],
+        &by_11[..8],
+        &size[..1],
+        &out[..1],
+        &out[..2],
+    ];
     for last in whole.into_iter().chain(cut) {
         let name = "refusal 6 whatever the 4,097th command";
         cases.refused(name, 6, &full, last, 4096);
     }
     let faults = [&[0x09], &count[..]].concat();
     let name = "an earlier fault before 6";
-    cases.refused(name, 2, &sent(OPEN, &[Count; 4095]), &faults, 4096);
+    cases.refused(name, 2, &sent(opening, &[Count; 4095]), &faults, 4096);
     cases.refused("refusal 6 before 7", 6, &full, &count, 0);
 
-    cases.refused("refusal 7: no word", 7, &sent(OPEN, &[Count]), &[], 0);
-    let two = sent(OPEN, &[Shelve(22); 2]);
+    cases.refused("refusal 7: no word", 7, &sent(opening, &[Count]), &[], 0);
+    let two = sent(opening, &[Shelve(22); 2]);
     cases.refused("refusal 7: one word short", 7, &two, &[], 1);
     cases.refused("refusal 7: one of 4,096 short", 7, &full, &[], 4095);
     let name = "another fault before 7";
-    cases.refused(name, 3, &sent(OPEN, &[Shelve(22)]), &size[..2], 0);
+    cases.refused(name, 3, &sent(opening, &[Shelve(22)]), &size[..2], 0);
 }
 
 fn item_refusals(cases: &mut Cases) {
@@ -419,6 +485,10 @@ fn item_refusals(cases: &mut Cases) {
     let words: Vec<u16> = (1..=512).chain([r(10)]).collect();
     let name = "513 masters over a stock of 512";
     cases.accepted(name, &spent, &words, (512, 512));
+
+    let ones = sent(opening(16_777_216, 1, 6), &[Shelve(1); 4096]);
+    let name = "4,096 masters in one cartridge";
+    cases.accepted(name, &ones, &[1; 4096], (4096, 1));
 }
 
 /// Refusals 11 and 12.
@@ -517,6 +587,8 @@ fn worst_lists(cases: &mut Cases) {
     }
 }
 
+/// By 11, each size less a trailer. That the list as it is comes to the same by
+/// 01, the library's checks see to.
 fn family(cases: &mut Cases, name: &str, m: u8, family: Family) {
     let Family {
         capacity,
@@ -525,13 +597,14 @@ fn family(cases: &mut Cases, name: &str, m: u8, family: Family) {
         k,
         opened,
     } = family;
-    let stream = Stream::of_sizes(opening(capacity, 512, m), &sizes);
-    let trial = case(stream.bytes(), Lent::both(sizes.len()));
-    let paper = by_paper(&trial);
     let totals = Totals {
         items: sizes.len(),
         opened: opened as usize,
     };
+    let opening = opening(capacity, 512, m).with_trailer(most_trailer(&sizes));
+    let stream = Stream::of_stored(opening, &sizes);
+    let trial = case(stream.bytes(), Lent::both(sizes.len()));
+    let paper = by_paper(&trial);
     cases.check(name, paper.totals() == Some(totals), || {
         format!("paper: {paper}")
     });

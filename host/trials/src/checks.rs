@@ -3,8 +3,13 @@
 
 use crate::compare::Outcome;
 use crate::streams::StreamTrial;
-use crate::{figures, left_out, still_shelved};
+use crate::{either_opening, figures, left_out, still_shelved};
 
 pub type Check = fn(&StreamTrial, &Outcome) -> Option<&'static str>;
 
-pub const CHECKS: [Check; 3] = [figures::fault, still_shelved::fault, left_out::fault];
+pub const CHECKS: [Check; 4] = [
+    figures::fault,
+    still_shelved::fault,
+    left_out::fault,
+    either_opening::fault,
+];

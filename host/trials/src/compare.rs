@@ -66,6 +66,11 @@ impl Outcome {
     pub fn totals(&self) -> Option<Totals> {
         self.result?.ok()
     }
+
+    /// What it returned, if it was refused.
+    pub fn refusal(&self) -> Option<Refusal> {
+        self.result?.err()
+    }
 }
 
 fn outcome(

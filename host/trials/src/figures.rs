@@ -10,19 +10,20 @@ use crate::wire::{answer, Command, Stream};
 use crate::written::Written;
 
 /// A figure for each bin, beside the bin's number.
-pub type Figures = Vec<(u16, u32)>;
+pub type Figures = Vec<(u16, u64)>;
 
-/// The free units beside these answer words: the capacity less all that was
-/// answered the same bin up to then and has not left it, and 0 where no item
-/// came or went. `None` if a bin is given more than it holds, or gives more.
+/// The free units beside these answer words: the capacity less the stored sizes
+/// of all that was answered the same bin up to then and has not left it, and 0
+/// where no item came or went. `None` if a bin is given more than it holds, or
+/// gives more.
 pub fn by_subtraction(stream: &Stream, words: &[u16]) -> Option<Vec<u32>> {
     let capacity = i64::from(stream.opening.capacity);
     let mut loads: HashMap<u16, i64> = HashMap::new();
     let answered = stream.commands.iter().zip(words);
     let figures = answered.map(|(command, &word)| {
         let (bin, change) = match (*command, answer(word)) {
-            (Command::Shelve(size), Ok(bin)) => (bin, i64::from(size)),
-            (Command::Withdraw(number), Ok(bin)) => (bin, -i64::from(stream.size_of(number)?)),
+            (Command::Shelve(size), Ok(bin)) => (bin, stream.opening.stored(size) as i64),
+            (Command::Withdraw(number), Ok(bin)) => (bin, -(stream.stored_by(number)? as i64)),
             _ => return Some(0),
         };
         let load = loads.entry(bin).or_default();
@@ -38,10 +39,10 @@ pub fn by_subtraction(stream: &Stream, words: &[u16]) -> Option<Vec<u32>> {
 fn last_figures(stream: &Stream, words: &[u16], free: &[u32]) -> Figures {
     let answered = stream.commands.iter().zip(words).zip(free);
     let moved = answered.filter_map(|((command, &word), &free)| match command {
-        Command::Shelve(_) | Command::Withdraw(_) => Some((answer(word).ok()?, free)),
+        Command::Shelve(_) | Command::Withdraw(_) => Some((answer(word).ok()?, free.into())),
         Command::Count => None,
     });
-    let last: BTreeMap<u16, u32> = moved.collect();
+    let last: BTreeMap<u16, u64> = moved.collect();
     last.into_iter().collect()
 }
 
@@ -136,6 +137,7 @@ mod tests {
         assert_eq!(by_subtraction(&stream, &[1, 2]), Some(vec![25, 34]));
         assert_eq!(by_subtraction(&stream, &[1, 1]), None);
     }
+
     #[test]
     fn what_leaves_is_free_again() {
         let mut stream = Stream::of_sizes(opening(60, 4, 6), &[35, 22, 0]);
@@ -156,6 +158,20 @@ mod tests {
             words[place] = bin;
             assert_eq!(figures(words), None, "{place}");
         }
+    }
+
+    #[test]
+    fn a_figure_without_its_trailer_is_found() {
+        let opening = opening(60, 4, 6).with_trailer(5);
+        let mut stream = Stream::of_sizes(opening, &[30, 17, u32::MAX]);
+        stream.commands.push(Command::Withdraw(1));
+        let words = [1, 2, r(9), 1];
+        assert_eq!(found(stream.bytes(), &words, &[25, 38, 0, 60]), None);
+        for wrong in [[30, 38, 0, 60], [25, 43, 0, 60], [25, 38, 0, 55]] {
+            assert!(found(stream.bytes(), &words, &wrong).is_some());
+        }
+        // The last 32 bits of its stored size, 4, would fit.
+        assert_eq!(by_subtraction(&stream, &[1, 2, 2, 1]), None);
     }
 
     #[test]

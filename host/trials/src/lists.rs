@@ -6,7 +6,7 @@ use crate::wire::Command::{Count, Shelve};
 use crate::wire::{opening, Opening, Stream};
 use crate::wire::{LEAST_M, MOST_CAPACITY, MOST_COMMANDS, MOST_M, MOST_STOCK};
 
-pub fn random_m(rng: &mut Rng) -> u8 {
+fn random_m(rng: &mut Rng) -> u8 {
     rng.between(LEAST_M.into(), MOST_M.into()) as u8
 }
 
@@ -30,10 +30,59 @@ pub fn random_opening(rng: &mut Rng) -> Opening {
         5 => 1 << rng.between(0, 9),
         _ => most,
     };
-    opening(capacity as u32, stock as u16, random_m(rng))
+    let opening = opening(capacity as u32, stock as u16, random_m(rng));
+    Opening {
+        trailer: random_trailer(rng, opening.capacity),
+        ..opening
+    }
 }
 
-/// How the sizes of one stream are chosen.
+/// None, for an opening by 01, or one of those that are odd beside this
+/// capacity; or one with which most sizes are still within it.
+fn random_trailer(rng: &mut Rng, capacity: u32) -> Option<u16> {
+    let trailer = match rng.between(0, 29) {
+        0..=11 => return None,
+        12..=13 => 0,
+        14..=16 => 1,
+        17..=18 => u64::from(capacity) - 1 + rng.between(0, 2),
+        19 => u16::MAX.into(),
+        20 => rng.between(0, u16::MAX.into()),
+        _ => return Some(small_trailer(rng, capacity)),
+    };
+    Some(u16::try_from(trailer).unwrap_or(u16::MAX))
+}
+
+/// One with which most sizes are within the capacity.
+fn small_trailer(rng: &mut Rng, capacity: u32) -> u16 {
+    let most = (capacity / 12 + 1).min(u16::MAX.into());
+    rng.between(0, most.into()) as u16
+}
+
+/// The largest with which items can still be stored by these sizes.
+pub fn most_trailer(stored: &[u32]) -> u16 {
+    let least = stored.iter().copied().filter(|&size| size > 0).min();
+    least.map_or(0, |least| (least - 1).min(u16::MAX.into()) as u16)
+}
+
+/// An opening by either command, where most sizes are within the capacity with
+/// their trailer, and the capacity is as large as this at least.
+pub fn roomy_opening(rng: &mut Rng, least: u32) -> Opening {
+    let mut opening = random_opening(rng);
+    opening.capacity = opening.capacity.max(least);
+    let trailer = small_trailer(rng, opening.capacity);
+    opening.trailer = opening.trailer.map(|_| trailer);
+    opening
+}
+
+/// An opening for B2 items, with the least and the most that these are stored
+/// by.
+pub fn b2_opening(rng: &mut Rng) -> (Opening, (u64, u64)) {
+    let opening = roomy_opening(rng, 12);
+    let c = u64::from(opening.capacity);
+    (opening, (c / 3 + 1, (2 * c / 5).max(c / 3 + 1)))
+}
+
+/// How the stored sizes of one stream are chosen.
 #[derive(Clone, Copy)]
 pub enum Sizes {
     Uniform,
@@ -53,9 +102,9 @@ pub fn random_sizes(rng: &mut Rng) -> Sizes {
     rng.pick(&[Uniform, Edges, Edges, Classes, Classes, Parts, Small])
 }
 
-pub fn random_size(rng: &mut Rng, sizes: Sizes, capacity: u32) -> u32 {
-    let c = u64::from(capacity);
-    let size = match sizes {
+pub fn random_size(rng: &mut Rng, sizes: Sizes, opening: Opening) -> u32 {
+    let c = u64::from(opening.capacity);
+    let stored = match sizes {
         Sizes::Uniform => rng.between(1, c),
         Sizes::Edges => {
             let (p, q) = rng.pick(&[
@@ -85,26 +134,33 @@ pub fn random_size(rng: &mut Rng, sizes: Sizes, capacity: u32) -> u32 {
             (c / q + rng.between(0, 4)).saturating_sub(2)
         }
         Sizes::Small => rng.between(1, c / 8 + 1),
-        Sizes::Bad => bad_size(rng, capacity).into(),
+        Sizes::Bad => return bad_size(rng, opening),
     };
-    size as u32
+    opening.bare(stored as u32)
 }
 
-pub fn bad_size(rng: &mut Rng, capacity: u32) -> u32 {
-    match rng.between(0, 5) {
-        0..=1 => 0,
-        2..=3 => capacity + 1,
-        4 => u32::MAX,
-        _ => rng.between(u64::from(capacity) + 1, u32::MAX.into()) as u32,
-    }
+pub fn bad_size(rng: &mut Rng, opening: Opening) -> u32 {
+    let above = u64::from(opening.capacity) + 1;
+    let least: u64 = opening.bare(above as u32).into();
+    let size = match rng.between(0, 9) {
+        0..=2 => 0,
+        // Too large by one with the trailer, or for the trailer alone.
+        3..=4 => least,
+        5 => rng.between(least, above),
+        6 => u32::MAX.into(),
+        // Most of these would be small again if a sum had no more than 32 bits.
+        7 => u64::from(u32::MAX) - rng.between(0, opening.stored(0)),
+        _ => rng.between(above, u32::MAX.into()),
+    };
+    size as u32
 }
 
 /// So many commands: items, good and bad, and counts.
 fn mixed(rng: &mut Rng, opening: Opening, sizes: Sizes, len: usize) -> Stream {
     let mut command = || match rng.between(0, 99) {
         0..=5 => Count,
-        6..=10 => Shelve(bad_size(rng, opening.capacity)),
-        _ => Shelve(random_size(rng, sizes, opening.capacity)),
+        6..=10 => Shelve(bad_size(rng, opening)),
+        _ => Shelve(random_size(rng, sizes, opening)),
     };
     let commands = (0..len).map(|_| command()).collect();
     Stream { opening, commands }
@@ -142,28 +198,28 @@ pub fn short_list(rng: &mut Rng) -> Stream {
     } else {
         rng.shuffle(&mut sizes);
     }
-    Stream::of_sizes(opening, &sizes)
+    Stream::of_stored(opening, &sizes)
 }
 
 /// B2 items and a few A over a stock that runs out, so that some m-th B2 find
 /// an A, some open a bin, and some are refused and come again.
 pub fn b2_run(rng: &mut Rng) -> Stream {
-    let mut opening = random_opening(rng);
-    opening.capacity = opening.capacity.max(12);
+    let (mut opening, b2) = b2_opening(rng);
     opening.stock = rng.between(1, 12) as u16;
     let c = u64::from(opening.capacity);
-    let b2 = (c / 3 + 1, (2 * c / 5).max(c / 3 + 1));
     let mut commands = Vec::new();
     for _ in 0..rng.between(6, 70) {
-        let size = match rng.between(0, 19) {
+        let stored = match rng.between(0, 18) {
             0..=13 => rng.between(b2.0, b2.1),
             14..=15 => rng.between(c / 2 + 1, c - b2.0),
             16 => c - b2.1 + rng.between(0, 1),
             17 => rng.between(c / 2 + 1, c),
-            18 => rng.between(1, c / 3),
-            _ => bad_size(rng, opening.capacity).into(),
+            _ => rng.between(1, c / 3),
         };
-        commands.push(Shelve(size as u32));
+        commands.push(Shelve(opening.bare(stored as u32)));
+        if rng.chance(5) {
+            commands.push(Shelve(bad_size(rng, opening)));
+        }
         if rng.chance(4) {
             commands.push(Count);
         }
@@ -219,31 +275,35 @@ pub fn family(rng: &mut Rng) -> Stream {
     }
     let most = MOST_STOCK.into();
     let stock = rng.pick(&[most, most, opened, opened - 1]) as u16;
-    let opening = opening(capacity, stock, random_m(rng));
+    let mut opening = opening(capacity, stock, random_m(rng));
+    if rng.chance(50) {
+        let trailer = rng.between(0, most_trailer(&sizes).into());
+        opening = opening.with_trailer(trailer as u16);
+    }
     let mut commands = Vec::new();
     for size in sizes {
         if rng.chance(3) {
             commands.push(Count);
         }
         if rng.chance(3) {
-            commands.push(Shelve(bad_size(rng, capacity)));
+            commands.push(Shelve(bad_size(rng, opening)));
         }
-        commands.push(Shelve(size));
+        commands.push(Shelve(opening.bare(size)));
     }
     Stream { opening, commands }
 }
 
 /// Exactly as many commands as are allowed, sometimes with every item accepted.
 pub fn long(rng: &mut Rng) -> Stream {
-    let mut opening = random_opening(rng);
     if rng.chance(30) {
-        opening.capacity = opening.capacity.max(100);
+        let mut opening = roomy_opening(rng, 100);
         opening.stock = MOST_STOCK;
         let most = u64::from(opening.capacity) / 10;
         let size = |_| rng.between(1, most) as u32;
         let sizes: Vec<u32> = (0..MOST_COMMANDS).map(size).collect();
-        return Stream::of_sizes(opening, &sizes);
+        return Stream::of_stored(opening, &sizes);
     }
+    let opening = random_opening(rng);
     let sizes = random_sizes(rng);
     mixed(rng, opening, sizes, MOST_COMMANDS)
 }

@@ -11,6 +11,7 @@
 mod cases;
 mod checks;
 mod compare;
+mod either_opening;
 mod families;
 mod fewest;
 mod figures;
@@ -27,6 +28,8 @@ mod sheet_cases;
 mod smaller;
 mod still_shelved;
 mod streams;
+mod trailer_cases;
+mod trailers;
 mod walk;
 mod walk_cases;
 mod wire;
@@ -46,6 +49,7 @@ use plans::PlanTrial;
 use rng::Rng;
 use smaller::{show_plan, show_stream, show_walk};
 use streams::{StreamTrial, COUNTS};
+use trailers::Trailers;
 use walk::{Found, Program};
 use wire::{answer, Command, Stream};
 
@@ -191,6 +195,7 @@ fn run(settings: &Settings) -> Result<(), Failure> {
 struct Tally {
     streams: u64,
     accepted: u64,
+    trailers: Trailers,
     /// What the counts found.
     counts: Found,
     /// Prefixes whose fewest bins were found.
@@ -204,6 +209,7 @@ impl std::fmt::Display for Tally {
         let Self {
             streams,
             accepted,
+            trailers,
             counts,
             prefixes,
             worst,
@@ -211,6 +217,7 @@ impl std::fmt::Display for Tally {
         write!(
             f,
             "streams: {streams}, of these {accepted} accepted\n\
+             {trailers}\n\
              streams with counts: {counts}\n\
              fewest cartridges k at {prefixes} points: 3 * opened - 5 * k is at most {worst}"
         )
@@ -226,6 +233,7 @@ fn try_stream(trial: StreamTrial, tally: &mut Tally) -> Result<(), String> {
         return Err(format!("{kind}\n{}", show_stream(trial, differs)));
     }
     tally.accepted += u64::from(outcome.totals().is_some());
+    tally.trailers.add(&trial.stream, &outcome);
     for check in CHECKS {
         if let Some(fault) = check(&trial, &outcome) {
             let faulty = |trial: &StreamTrial| check(trial, &by_library(trial)).is_some();
@@ -351,6 +359,25 @@ mod tests {
         };
         assert_eq!(worst(1), (Some(5), 5));
         assert_eq!(worst(6), (Some(5), 11));
+    }
+
+    /// By their stored sizes two go into a bin, by the bare ones all twelve.
+    #[test]
+    fn the_fewest_are_of_stored_sizes() {
+        let opening = opening(60, 512, 6).with_trailer(29);
+        let trial = case(sent(opening, &[Shelve(1); 12]), Lent::both(12));
+        let words: Vec<u16> = (1..=12).collect();
+        let totals = paper::Totals {
+            items: 12,
+            opened: 12,
+        };
+        let outcome = Outcome::accepted(&trial, totals, &words, &[0; 12]);
+        let worst = worst_excess(&trial, &outcome, &mut Tally::default());
+        assert_eq!(worst, Some(3 * 12 - 5 * 6));
+        // A list that is not short is held against first-fit decreasing.
+        let trial = case(sent(opening, &[Shelve(1); 14]), Lent::both(14));
+        let worst = worst_excess(&trial, &by_paper(&trial), &mut Tally::default());
+        assert_eq!(worst, Some(3 * 7 - 5 * 7));
     }
 
     /// A shelf that opens a bin for every item is found, but not behind a

@@ -57,7 +57,7 @@ impl Met {
             let opened = shelf.bins.len();
             match (command, answer(shelf.answer(number, command).0)) {
                 (Command::Shelve(size), Ok(bin)) => {
-                    self.placed(&shelf, size.into(), bin.into(), opened);
+                    self.placed(&shelf, opening.stored(size), bin.into(), opened);
                     self.after_10 += u64::from(withdrawn_since_10 == Some(true));
                 }
                 (Command::Shelve(_), Err(10)) => withdrawn_since_10 = Some(false),
@@ -88,7 +88,8 @@ impl Met {
         }
     }
 
-    /// Adds an item of this size in this bin, when so many bins were opened.
+    /// Adds an item of this stored size in this bin, when so many bins were
+    /// opened.
     fn placed(&mut self, shelf: &Packing, size: u64, bin: usize, opened: usize) {
         let capacity = u64::from(shelf.opening.capacity);
         let (passed, bin) = (&shelf.bins[..bin - 1], &shelf.bins[bin - 1]);

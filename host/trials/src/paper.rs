@@ -37,6 +37,7 @@ pub fn size_class(size: u64, capacity: u64) -> SizeClass {
 pub struct Item {
     /// The number of the command that shelved it.
     pub number: usize,
+    /// What it takes on its bin: the stored size.
     pub size: u64,
 }
 
@@ -79,10 +80,11 @@ impl Packing {
     }
 
     /// Places the item of the command with this number: the number of its bin,
-    /// or the refusal's number.
-    fn place(&mut self, number: usize, size: u64) -> Result<usize, u16> {
+    /// or the refusal's number. But for refusal 8, all goes by the stored size.
+    fn place(&mut self, number: usize, bare: u32) -> Result<usize, u16> {
         let capacity = self.opening.capacity.into();
-        if size == 0 {
+        let size = self.opening.stored(bare);
+        if bare == 0 {
             return Err(8);
         }
         if size > capacity {
@@ -162,7 +164,7 @@ impl Packing {
                 self.counts.push((walk, self.bins.len()));
                 return (walk.figure as u16, 0);
             }
-            Command::Shelve(size) => self.place(number, size.into()),
+            Command::Shelve(size) => self.place(number, size),
             Command::Withdraw(named) => self.take_out(named.into()),
         };
         match bin {

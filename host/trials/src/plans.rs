@@ -2,10 +2,10 @@
 
 use crate::families::{self, Family};
 use crate::fewest::first_fit_decreasing;
-use crate::lists::random_m;
+use crate::lists::roomy_opening;
 use crate::paper::{self, MOST_ENTRIES};
 use crate::rng::Rng;
-use crate::wire::{opening, Refusal, Stream, MOST_CAPACITY, MOST_STOCK};
+use crate::wire::{Refusal, Stream, MOST_CAPACITY, MOST_STOCK};
 
 /// The largest k.
 const MOST_K: u32 = MOST_ENTRIES as u32;
@@ -67,12 +67,14 @@ fn random_items(rng: &mut Rng, capacity: u32) -> Vec<u32> {
         .collect()
 }
 
-/// The answers of the library to a stream, with the accepted sizes in order.
+/// The answers of the library to a stream, with the accepted sizes as they are
+/// stored, in order.
 fn own_answers(rng: &mut Rng) -> PlanTrial {
-    let capacity = random_capacity(rng);
-    let stock = rng.pick(&[1, 2, 5, 20, MOST_STOCK]);
+    let mut opening = roomy_opening(rng, 1);
+    opening.stock = rng.pick(&[1, 2, 5, 20, MOST_STOCK]);
+    let capacity = opening.capacity;
     let sent = random_items(rng, capacity);
-    let stream = Stream::of_sizes(opening(capacity, stock, random_m(rng)), &sent);
+    let stream = Stream::of_stored(opening, &sent);
     let mut words = vec![0; sent.len()];
     let mut free = vec![0; sent.len()];
     let shelved = shelf::shelve(&stream.bytes(), &mut words, &mut free);

@@ -24,6 +24,22 @@ impl Cases {
     }
 }
 
+/// The text of a sheet with these classes, loads and items held.
+pub fn sheet(capacity: u32, bins: &[(u32, u32, u32)]) -> String {
+    let mut text = String::new();
+    for (place, (class, load, held)) in bins.iter().enumerate() {
+        if place % 50 == 0 {
+            text += &format!("PAGE {:>3}{:32}\n", place / 50 + 1, "");
+        }
+        let (number, free) = (place + 1, capacity - load);
+        text += &format!(
+            "{number:>4} {class} {load:>8} {free:>8} {held:>4}{:11}\n",
+            ""
+        );
+    }
+    text
+}
+
 pub fn run(cases: &mut Cases) {
     shelves(cases);
     pages(cases);
@@ -113,13 +129,19 @@ fn widest_numbers(cases: &mut Cases) {
 
 fn refused_streams(cases: &mut Cases) {
     let shelved = sent(OPEN, &[Shelve(60), Count]);
+    let trailed = sent(OPEN.with_trailer(5), &[Shelve(55), Count]);
     let refused = [
         (vec![], "X 1 0\n"),
         ([&shelved[..], &[0x05]].concat(), "X 2 14\n"),
         ([&shelved[..], &[0x04, 0x00]].concat(), "X 3 14\n"),
         (shelved[..12].to_vec(), "X 3 8\n"),
         ([&shelved[..], &shelved].concat(), "X 4 14\n"),
+        ([&shelved[..], &[0x11]].concat(), "X 4 14\n"),
+        ([&trailed[..], &OPEN.bytes()].concat(), "X 4 16\n"),
+        (trailed[..14].to_vec(), "X 3 10\n"),
+        (trailed[..9].to_vec(), "X 3 0\n"),
         (opening(60, 513, 6).bytes(), "X 5 0\n"),
+        (opening(60, 513, 6).with_trailer(0).bytes(), "X 5 0\n"),
         (sent(OPEN, &[Count; 4097]), "X 6 4104\n"),
         (sent(OPEN, &[Shelve(60); 4097]), "X 6 20488\n"),
     ];

@@ -8,7 +8,7 @@ use crate::plans::PlanTrial;
 use crate::rows::{self, Lent};
 use crate::streams::StreamTrial;
 use crate::walk::{self, Program};
-use crate::wire::{self, opening, Command, Opening, Part, LEAST_M};
+use crate::wire::{self, Command, Opening, Part, LEAST_M};
 use crate::written;
 
 /// Follows smaller trials that still fail, until none does or time is up.
@@ -48,11 +48,22 @@ fn lower(n: u32) -> impl Iterator<Item = u32> {
 /// The part with one of its numbers lowered.
 fn lowered(part: Part) -> Vec<Part> {
     match part {
-        Part::Opening(Opening { capacity, stock, m }) => {
-            let capacities = lower(capacity).map(|n| opening(n, stock, m));
-            let stocks = lower(stock.into()).map(|n| opening(capacity, n as u16, m));
-            let ms = (LEAST_M..m).map(|n| opening(capacity, stock, n));
-            let openings = capacities.chain(stocks).chain(ms);
+        Part::Opening(opening) => {
+            let capacities = lower(opening.capacity).map(|capacity| Opening {
+                capacity,
+                ..opening
+            });
+            let stocks = lower(opening.stock.into()).map(|stock| Opening {
+                stock: stock as u16,
+                ..opening
+            });
+            let ms = (LEAST_M..opening.m).map(|m| Opening { m, ..opening });
+            let trailers = opening.trailer.into_iter().flat_map(|trailer| {
+                let lower = lower(trailer.into()).map(|trailer| Some(trailer as u16));
+                std::iter::once(None).chain(lower)
+            });
+            let trailers = trailers.map(|trailer| Opening { trailer, ..opening });
+            let openings = capacities.chain(stocks).chain(ms).chain(trailers);
             openings.map(Part::Opening).collect()
         }
         Part::Command(Command::Shelve(size)) => {
@@ -67,14 +78,17 @@ fn lowered(part: Part) -> Vec<Part> {
     }
 }
 
-/// The stream with capacity and sizes divided alike, which keeps most fits.
+/// The stream with capacity, trailer and sizes divided alike, which keeps most
+/// fits.
 fn scaled<'a>(parts: &[Part<'a>], by: u32) -> Option<Vec<Part<'a>>> {
     let less = |n: u32| Some(n / by).filter(|&n| n > 0);
     let scaled = parts.iter().map(|&part| {
         Some(match part {
-            Part::Opening(Opening { capacity, stock, m }) => {
-                Part::Opening(opening(less(capacity)?, stock, m))
-            }
+            Part::Opening(opening) => Part::Opening(Opening {
+                capacity: less(opening.capacity)?,
+                trailer: opening.trailer.map(|n| (u32::from(n) / by) as u16),
+                ..opening
+            }),
             Part::Command(Command::Shelve(size)) => Part::Command(Command::Shelve(less(size)?)),
             other => other,
         })
@@ -249,6 +263,7 @@ fn hex(bytes: &[u8]) -> String {
 mod tests {
     use super::*;
     use crate::cases::{case, sent};
+    use crate::wire::opening;
     use crate::wire::Command::{Count, Shelve, Withdraw};
 
     #[test]
@@ -267,5 +282,20 @@ mod tests {
             .collect();
         let named = [1, 0, 0, 2, 3, 7, 65_535].map(Withdraw);
         assert_eq!(left, [&[Shelve(9), Shelve(7)], &named[..]].concat());
+    }
+
+    #[test]
+    fn a_trailer_is_lowered_and_left_out() {
+        let open = opening(600, 4, 6);
+        let tries = lowered(Part::Opening(open.with_trailer(60)));
+        for opening in [open, open.with_trailer(0), open.with_trailer(59)] {
+            assert!(tries.contains(&Part::Opening(opening)), "{opening:?}");
+        }
+        let by_01 = lowered(Part::Opening(open));
+        assert!(by_01.iter().all(|part| part.bytes()[0] == 0x01));
+        let parts = [open.with_trailer(60), open.with_trailer(9), open].map(Part::Opening);
+        let less = opening(60, 4, 6);
+        let expected = [less.with_trailer(6), less.with_trailer(0), less].map(Part::Opening);
+        assert_eq!(scaled(&parts, 10), Some(expected.to_vec()));
     }
 }

@@ -7,19 +7,28 @@ use crate::figures::{on_sheet, Figures};
 use crate::paper::Totals;
 use crate::plans::PlanTrial;
 use crate::streams::StreamTrial;
-use crate::wire::{answer, Command, Stream};
+use crate::wire::{answer, entry_size, Command, Opening, Stream};
 
 /// The shelf as the answers tell it.
-#[derive(Default)]
 struct Told {
-    /// The item of each command so far, its size and its bin, while it is
+    opening: Opening,
+    /// The item of each command so far, its stored size and its bin, while it is
     /// shelved.
-    items: Vec<Option<(u32, u16)>>,
+    items: Vec<Option<(u64, u16)>>,
     /// The bins that were opened, emptied or not.
     opened: u16,
 }
 
 impl Told {
+    /// Nothing is told yet.
+    fn new(opening: Opening) -> Self {
+        Self {
+            opening,
+            items: Vec::new(),
+            opened: 0,
+        }
+    }
+
     /// Takes in the answer to the next command, or says why it cannot be
     /// answered so.
     fn take_in(&mut self, command: Command, word: u16) -> Result<(), &'static str> {
@@ -30,7 +39,7 @@ impl Told {
                     return Err("a cartridge is opened out of turn");
                 }
                 self.opened = self.opened.max(bin);
-                item = Some((size, bin));
+                item = Some((self.opening.stored(size), bin));
             }
             (Command::Shelve(_), Err(8..=10)) => {}
             (Command::Count, Ok(figure)) if figure == self.opened => {}
@@ -52,13 +61,13 @@ impl Told {
     }
 
     /// The item of the command with this number, which then is out.
-    fn take_out(&mut self, number: u16) -> Option<(u32, u16)> {
+    fn take_out(&mut self, number: u16) -> Option<(u64, u16)> {
         let place = usize::from(number).checked_sub(1)?;
         self.items.get_mut(place)?.take()
     }
 
     /// The items in the order of their commands.
-    fn shelved(&self) -> impl Iterator<Item = (u32, u16)> + '_ {
+    fn shelved(&self) -> impl Iterator<Item = (u64, u16)> + '_ {
         self.items.iter().copied().flatten()
     }
 
@@ -74,14 +83,14 @@ impl Told {
     }
 
     /// The plan of the items, with k the number opened.
-    fn own_plan(&self, capacity: u32) -> PlanTrial {
-        let items: Vec<u32> = self.shelved().map(|(size, _)| size).collect();
+    fn own_plan(&self) -> PlanTrial {
+        let items: Vec<u32> = self.shelved().map(|(size, _)| entry_size(size)).collect();
         PlanTrial {
             kind: "own plan",
             sizes: items.clone(),
             bins: self.shelved().map(|(_, bin)| bin.into()).collect(),
             items,
-            capacity,
+            capacity: self.opening.capacity,
             k: self.opened.into(),
         }
     }
@@ -91,7 +100,7 @@ impl Told {
 pub fn fault(trial: &StreamTrial, outcome: &Outcome) -> Option<&'static str> {
     let totals = outcome.totals()?;
     let Stream { opening, commands } = Stream::read(&trial.stream).ok()?;
-    let mut told = Told::default();
+    let mut told = Told::new(opening);
     for (command, &word) in commands.into_iter().zip(outcome.rows.answers()) {
         if let Err(fault) = told.take_in(command, word) {
             return Some(fault);
@@ -111,7 +120,7 @@ pub fn fault(trial: &StreamTrial, outcome: &Outcome) -> Option<&'static str> {
     if on_sheet(&outcome.sheet, 26..=29) != Some(held) {
         return Some("the sheet does not hold what is still shelved");
     }
-    if plan_by_library(&told.own_plan(opening.capacity)) != Some(Ok(())) {
+    if plan_by_library(&told.own_plan()) != Some(Ok(())) {
         return Some("the shelf's own plan does not pass");
     }
     None
@@ -138,6 +147,7 @@ mod tests {
         Shelve(61),
         Withdraw(7),
     ];
+    const OPEN: Opening = opening(60, 4, 6);
     const WORDS: [u16; 8] = [1, 1, 2, 1, r(17), 2, r(9), r(17)];
     const FREE: [u32; 8] = [38, 16, 25, 38, 0, 0, 0, 0];
     const TOTALS: Totals = Totals {
@@ -146,10 +156,7 @@ mod tests {
     };
 
     fn trial(commands: &[Command]) -> StreamTrial {
-        case(
-            sent(opening(60, 4, 6), commands),
-            Lent::both(COMMANDS.len()),
-        )
+        case(sent(OPEN, commands), Lent::both(COMMANDS.len()))
     }
 
     /// The fault of the stream if it is answered with these words and totals.
@@ -228,17 +235,46 @@ mod tests {
     /// k of the cartridges that hold something, it would not pass.
     #[test]
     fn the_own_plan_goes_by_what_is_still_shelved() {
-        let mut told = Told::default();
+        let mut told = Told::new(OPEN);
         for (command, word) in COMMANDS.into_iter().zip(WORDS) {
             told.take_in(command, word).expect("a right answer");
         }
-        let plan = told.own_plan(60);
+        let plan = told.own_plan();
         assert_eq!((plan.entries(), plan.k), (vec![(22, 1), (35, 2)], 2));
         told.take_in(Withdraw(2), 1).expect("a right answer");
-        let plan = told.own_plan(60);
+        let plan = told.own_plan();
         assert_eq!((plan.entries(), plan.k), (vec![(35, 2)], 2));
         let fewer = PlanTrial { k: 1, ..plan };
         assert!(plan_by_library(&fewer).is_some_and(|verdict| verdict.is_err()));
+    }
+
+    #[test]
+    fn loads_and_plans_have_the_trailers() {
+        let opening = OPEN.with_trailer(5);
+        let commands = [Shelve(17), Shelve(17), Shelve(30), Withdraw(1)];
+        let words = [1, 1, 2, 1];
+        let mut told = Told::new(opening);
+        for (command, word) in commands.into_iter().zip(words) {
+            told.take_in(command, word).expect("a right answer");
+        }
+        assert_eq!(told.own_plan().entries(), [(22, 1), (35, 2)]);
+
+        let trial = case(sent(opening, &commands), Lent::both(4));
+        let mut outcome = Outcome::accepted(&trial, TOTALS, &words, &FREE[..4]);
+        assert_eq!(fault(&trial, &outcome), None);
+        let bare = [
+            "PAGE   1                                \n",
+            "   1 3       17       38    1           \n",
+            "   2 1       30       25    1           \n",
+        ];
+        outcome.sheet = Written::text(trial.fill, &bare.concat());
+        let expected = Some("the loads of the sheet are not of what is still shelved");
+        assert_eq!(fault(&trial, &outcome), expected);
+
+        // What no entry of a plan can say is in no plan that passes.
+        told.take_in(Shelve(u32::MAX), 3).expect("a number in turn");
+        assert_eq!(told.own_plan().entries()[2], (u32::MAX, 3));
+        assert!(plan_by_library(&told.own_plan()).is_some_and(|verdict| verdict.is_err()));
     }
 
     #[test]

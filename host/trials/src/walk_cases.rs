@@ -40,6 +40,7 @@ fn mixed_classes(place: usize) -> &'static [u32] {
 pub fn run(cases: &mut Cases, program: Option<&Program>) -> Result<(), String> {
     let mut walks = Walks { cases, program };
     walks.walked("the walk after the sample", &sample(), &[4], "4 4\n")?;
+    walks.trailers()?;
     for stock in [1, 2, 3, 50, 511, 512] {
         walks.none_opened(stock)?;
         for (shelf, sizes) in SHELVES {
@@ -145,6 +146,28 @@ impl Walks<'_> {
         Ok(())
     }
 
+    /// The same masters by either opening, where the trailer decides what is
+    /// opened.
+    fn trailers(&mut self) -> Result<(), String> {
+        let commands = [Shelve(20), Count, Shelve(20), Count, Shelve(20), Count];
+        for (trailer, figures, printed) in [
+            (None, [1, 1, 1], "1 2\n"),
+            (Some(0), [1, 1, 1], "1 2\n"),
+            (Some(1), [1, 1, 2], "2 3\n"),
+            (Some(20), [1, 2, 3], "3 3\n"),
+            (Some(41), [0, 0, 0], "0 1\n"),
+            (Some(u16::MAX), [0, 0, 0], "0 1\n"),
+        ] {
+            let opening = Opening {
+                trailer,
+                ..opening(60, 3, 6)
+            };
+            let name = format!("the walk after a trailer of {trailer:?}");
+            self.walked(&name, &sent(opening, &commands), &figures, printed)?;
+        }
+        Ok(())
+    }
+
     fn longest_streams(&mut self) -> Result<(), String> {
         let name = "4,096 counts and none opened";
         let counts = sent(OPEN, &[Count; MOST_COMMANDS]);
@@ -165,6 +188,8 @@ impl Walks<'_> {
             [&shelved[..], &[0x05]].concat(),
             shelved[..12].to_vec(),
             [&shelved[..], &shelved].concat(),
+            [&shelved[..], &[0x11]].concat(),
+            OPEN.with_trailer(5).bytes()[..9].to_vec(),
             opening(60, 513, 6).bytes(),
             sent(OPEN, &[Count; MOST_COMMANDS + 1]),
         ];

@@ -3,6 +3,7 @@
 //! here that reads or writes a stream does it through this module.
 
 const OPEN: u8 = 0x01;
+pub const OPEN_WITH_TRAILER: u8 = 0x11;
 const SHELVE: u8 = 0x02;
 const COUNT: u8 = 0x03;
 const WITHDRAW: u8 = 0x04;
@@ -39,13 +40,30 @@ pub struct Opening {
     pub capacity: u32,
     pub stock: u16,
     pub m: u8,
+    /// The last operand of 11. The opening is 01 where there is none.
+    pub trailer: Option<u16>,
 }
 
+/// By 01.
 pub const fn opening(capacity: u32, stock: u16, m: u8) -> Opening {
-    Opening { capacity, stock, m }
+    Opening {
+        capacity,
+        stock,
+        m,
+        trailer: None,
+    }
 }
 
 impl Opening {
+    /// The same by 11, with this trailer.
+    pub const fn with_trailer(self, trailer: u16) -> Self {
+        Self {
+            trailer: Some(trailer),
+            ..self
+        }
+    }
+
+    /// Any trailer will do.
     fn within_limits(&self) -> bool {
         (1..=MOST_CAPACITY).contains(&self.capacity)
             && (1..=MOST_STOCK).contains(&self.stock)
@@ -53,12 +71,35 @@ impl Opening {
     }
 
     pub fn bytes(&self) -> Vec<u8> {
-        let mut bytes = vec![OPEN];
+        let opcode = match self.trailer {
+            None => OPEN,
+            Some(_) => OPEN_WITH_TRAILER,
+        };
+        let mut bytes = vec![opcode];
         bytes.extend(self.capacity.to_be_bytes());
         bytes.extend(self.stock.to_be_bytes());
         bytes.extend(self.m.to_be_bytes());
+        bytes.extend(self.trailer.map(u16::to_be_bytes).into_iter().flatten());
         bytes
     }
+
+    /// The stored size of an item of this size: exact, also past 32 bits.
+    pub fn stored(&self, size: u32) -> u64 {
+        u64::from(size) + u64::from(self.trailer.unwrap_or(0))
+    }
+
+    /// The size of an item whose stored size is this; the least size, where the
+    /// trailer alone is as large.
+    pub fn bare(&self, stored: u32) -> u32 {
+        let bare = stored.saturating_sub(self.trailer.unwrap_or(0).into());
+        bare.max(stored.min(1))
+    }
+}
+
+/// A stored size in the 32 bits of a plan's entry. What passes them is above
+/// every capacity, and so is the largest of them.
+pub fn entry_size(stored: u64) -> u32 {
+    u32::try_from(stored).unwrap_or(u32::MAX)
 }
 
 /// A command after the opening.
@@ -94,6 +135,12 @@ impl Stream {
         Self { opening, commands }
     }
 
+    /// Items of these stored sizes, one after another.
+    pub fn of_stored(opening: Opening, stored: &[u32]) -> Self {
+        let sizes: Vec<u32> = stored.iter().map(|&size| opening.bare(size)).collect();
+        Self::of_sizes(opening, &sizes)
+    }
+
     /// The bytes, a piece for the opening and one for each command.
     pub fn pieces(&self) -> Vec<Vec<u8>> {
         let commands = self.commands.iter().map(Command::bytes);
@@ -106,21 +153,25 @@ impl Stream {
         self.pieces().concat()
     }
 
-    /// The size that the command of this number sends, if it sends one.
-    pub fn size_of(&self, number: u16) -> Option<u32> {
+    /// The stored size of the item that the command of this number sends, if it
+    /// sends one.
+    pub fn stored_by(&self, number: u16) -> Option<u64> {
         let place = usize::from(number).checked_sub(1)?;
         match self.commands.get(place)? {
-            Command::Shelve(size) => Some(*size),
+            Command::Shelve(size) => Some(self.opening.stored(*size)),
             Command::Count | Command::Withdraw(_) => None,
         }
     }
 
-    /// The accepted items, each with its bin, by these answers, whether or not
-    /// they were taken out later.
+    /// The accepted items by these answers, whether or not they were taken out
+    /// later, as a plan has them: each with its bin.
     pub fn placed(&self, answers: &[u16]) -> Vec<(u32, u32)> {
         let answered = self.commands.iter().zip(answers);
         let placed = answered.filter_map(|(command, &word)| match *command {
-            Command::Shelve(size) => Some((size, answer(word).ok()?.into())),
+            Command::Shelve(size) => {
+                let bin = answer(word).ok()?.into();
+                Some((entry_size(self.opening.stored(size)), bin))
+            }
             Command::Count | Command::Withdraw(_) => None,
         });
         placed.collect()
@@ -132,7 +183,7 @@ impl Stream {
         let opening = match parts.next() {
             Some((_, Part::Opening(opening))) if opening.within_limits() => opening,
             Some((_, Part::Opening(_))) => return refuse(5, 0),
-            Some((_, Part::CutShort([OPEN, ..]))) => return refuse(3, 0),
+            Some((_, Part::CutShort([OPEN | OPEN_WITH_TRAILER, ..]))) => return refuse(3, 0),
             _ => return refuse(1, 0),
         };
         let mut commands = Vec::new();
@@ -143,7 +194,9 @@ impl Stream {
             match part {
                 Part::Command(command) => commands.push(command),
                 Part::Unknown(_) => return refuse(2, offset),
-                Part::Opening(_) | Part::CutShort([OPEN, ..]) => return refuse(4, offset),
+                Part::Opening(_) | Part::CutShort([OPEN | OPEN_WITH_TRAILER, ..]) => {
+                    return refuse(4, offset)
+                }
                 Part::CutShort(_) => return refuse(3, offset),
             }
         }
@@ -188,9 +241,12 @@ fn first_part(bytes: &[u8]) -> Option<(Part<'_>, &[u8])> {
     Some(match *bytes {
         [] => return None,
         [OPEN, a, b, c, d, e, f, m, ref rest @ ..] => {
-            let capacity = u32::from_be_bytes([a, b, c, d]);
-            let stock = u16::from_be_bytes([e, f]);
-            (Part::Opening(opening(capacity, stock, m)), rest)
+            (Part::Opening(opening_of([a, b, c, d, e, f, m])), rest)
+        }
+        [OPEN_WITH_TRAILER, a, b, c, d, e, f, m, t, u, ref rest @ ..] => {
+            let trailer = u16::from_be_bytes([t, u]);
+            let opening = opening_of([a, b, c, d, e, f, m]).with_trailer(trailer);
+            (Part::Opening(opening), rest)
         }
         [SHELVE, a, b, c, d, ref rest @ ..] => {
             let size = u32::from_be_bytes([a, b, c, d]);
@@ -201,9 +257,44 @@ fn first_part(bytes: &[u8]) -> Option<(Part<'_>, &[u8])> {
             let number = u16::from_be_bytes([a, b]);
             (Part::Command(Command::Withdraw(number)), rest)
         }
-        [OPEN | SHELVE | WITHDRAW, ..] => (Part::CutShort(bytes), &[]),
+        [OPEN | OPEN_WITH_TRAILER | SHELVE | WITHDRAW, ..] => (Part::CutShort(bytes), &[]),
         [byte, ref rest @ ..] => (Part::Unknown(byte), rest),
     })
+}
+
+/// The opening with these operands of 01.
+fn opening_of([a, b, c, d, e, f, m]: [u8; 7]) -> Opening {
+    let capacity = u32::from_be_bytes([a, b, c, d]);
+    let stock = u16::from_be_bytes([e, f]);
+    opening(capacity, stock, m)
+}
+
+/// The same by the other opening: one by 01 as it is, with a trailer of 0, and
+/// one by 11 with the stored sizes. `None` if it starts with no opening, or an
+/// opening by 11 is cut short.
+pub fn by_other_opening(stream: &[u8]) -> Option<Vec<u8>> {
+    let mut parts = parts(stream).map(|(_, part)| part);
+    let opening = match parts.next()? {
+        Part::Opening(opening) => opening,
+        Part::CutShort([OPEN, operands @ ..]) => {
+            return Some([&[OPEN_WITH_TRAILER], operands].concat());
+        }
+        _ => return None,
+    };
+    let trailer = match opening.trailer {
+        None => Some(0),
+        Some(_) => None,
+    };
+    let mut bytes = Opening { trailer, ..opening }.bytes();
+    for part in parts {
+        bytes.extend(match part {
+            Part::Command(Command::Shelve(size @ 1..)) => {
+                Command::Shelve(entry_size(opening.stored(size))).bytes()
+            }
+            other => other.bytes(),
+        });
+    }
+    Some(bytes)
 }
 
 /// An answer word: the bin or the count, or else the refusal's number.
@@ -228,24 +319,124 @@ mod tests {
     /// bytes, and then the request's that takes the master out.
     const SAMPLE: [u8; 17] = [1, 0, 0, 0, 0x3C, 0, 4, 6, 2, 0, 0, 0, 0x23, 3, 4, 0, 1];
 
-    #[test]
-    fn bytes_are_read_and_written_as_the_paper_has_them() {
+    /// The same opened by the other command, with a trailer of 1,029.
+    const TRAILED: [u8; 19] = [
+        0x11, 0, 0, 0, 0x3C, 0, 4, 6, 4, 5, 2, 0, 0, 0, 0x23, 3, 4, 0, 1,
+    ];
+
+    fn read_and_written(bytes: &[u8], opening: Opening) {
         let stream = Stream {
-            opening: opening(60, 4, 6),
+            opening,
             commands: vec![Command::Shelve(35), Command::Count, Command::Withdraw(1)],
         };
-        assert_eq!(stream.bytes(), SAMPLE);
-        assert_eq!(Stream::read(&SAMPLE), Ok(stream));
-        assert_eq!(Stream::read(&SAMPLE[..12]), refuse(3, 8));
-        assert_eq!(Stream::read(&SAMPLE[..15]), refuse(3, 14));
-        assert_eq!(Stream::read(&SAMPLE[..16]), refuse(3, 14));
+        assert_eq!(stream.bytes(), bytes);
+        assert_eq!(Stream::read(bytes), Ok(stream));
+        let len = opening.bytes().len();
+        for cut in 0..bytes.len() {
+            let expected = match cut.checked_sub(len) {
+                None if cut == 0 => Some((1, 0)),
+                None => Some((3, 0)),
+                Some(1..=4) => Some((3, len)),
+                Some(7..=8) => Some((3, len + 6)),
+                Some(_) => None,
+            };
+            let refusal = Stream::read(&bytes[..cut]).err();
+            let refusal = refusal.map(|Refusal { number, at }| (number, at));
+            assert_eq!(refusal, expected, "{cut} bytes");
+        }
+    }
+
+    #[test]
+    fn bytes_are_read_and_written_as_the_papers_have_them() {
+        read_and_written(&SAMPLE, opening(60, 4, 6));
+        read_and_written(&TRAILED, opening(60, 4, 6).with_trailer(1029));
+    }
+
+    #[test]
+    fn either_opening_comes_once() {
+        for stream in [&SAMPLE[..], &TRAILED] {
+            for opening in [&SAMPLE[..8], &TRAILED[..10]] {
+                for cut in 1..=opening.len() {
+                    let second = [stream, &opening[..cut]].concat();
+                    assert_eq!(Stream::read(&second), refuse(4, stream.len()));
+                }
+            }
+        }
+        for first in [0, 2, 3, 4, 0x0B, 0x10, 0x12, 0xFF] {
+            let mut stream = TRAILED;
+            stream[0] = first;
+            assert_eq!(Stream::read(&stream), refuse(1, 0));
+        }
+    }
+
+    #[test]
+    fn a_trailer_has_no_limits() {
+        for trailer in [0, 1, 59, 60, 61, u16::MAX] {
+            let good = opening(60, 4, 6).with_trailer(trailer);
+            assert!(Stream::read(&good.bytes()).is_ok());
+            for (capacity, stock, m) in [(0, 4, 6), (60, 0, 6), (60, 4, 5), (60, 4, 10)] {
+                let outside = opening(capacity, stock, m).with_trailer(trailer);
+                assert_eq!(Stream::read(&outside.bytes()), refuse(5, 0));
+            }
+        }
+    }
+
+    #[test]
+    fn stored_sizes_are_exact() {
+        let open = opening(60, 4, 6);
+        assert_eq!(open.stored(u32::MAX), 4_294_967_295);
+        for (trailer, stored) in [
+            (0, 4_294_967_295),
+            (1, 4_294_967_296),
+            (2, 4_294_967_297),
+            (65_535, 4_295_032_830),
+        ] {
+            assert_eq!(open.with_trailer(trailer).stored(u32::MAX), stored);
+            assert_eq!(entry_size(stored), u32::MAX);
+        }
+        let trailed = open.with_trailer(5);
+        assert_eq!(
+            [0, 1, 5, 6, 60].map(|stored| open.bare(stored)),
+            [0, 1, 5, 6, 60]
+        );
+        assert_eq!(
+            [0, 1, 5, 6, 60].map(|stored| trailed.bare(stored)),
+            [0, 1, 1, 1, 55]
+        );
+    }
+
+    #[test]
+    fn a_trailer_of_0_takes_two_bytes() {
+        let mut other = TRAILED;
+        other[8..10].fill(0);
+        assert_eq!(by_other_opening(&SAMPLE), Some(other.to_vec()));
+        assert_eq!(by_other_opening(&other), Some(SAMPLE.to_vec()));
+        for cut in 1..8 {
+            let same_operands = Some(other[..cut].to_vec());
+            assert_eq!(by_other_opening(&SAMPLE[..cut]), same_operands);
+        }
+        for stream in [&[][..], &TRAILED[..1], &TRAILED[..9], &[2, 1], &[0]] {
+            assert_eq!(by_other_opening(stream), None);
+        }
+    }
+
+    #[test]
+    fn stored_sizes_stand_for_the_trailer() {
+        let stream = |opening: Opening, sizes: [u32; 4]| {
+            let faults = [&TRAILED[..10], &[9, 2, 1]].concat();
+            [Stream::of_sizes(opening, &sizes).bytes(), faults].concat()
+        };
+        let open = opening(60, 4, 6);
+        let trailed = stream(open.with_trailer(5), [0, 1, u32::MAX - 6, u32::MAX]);
+        let stored = stream(open, [0, 6, u32::MAX - 1, u32::MAX]);
+        assert_eq!(by_other_opening(&trailed), Some(stored));
     }
 
     #[test]
     fn a_stream_is_its_parts_faulty_or_not() {
         let second = [2, 1, 9, 3, 1, 0];
-        for cut in 0..=SAMPLE.len() {
-            let bytes = [&SAMPLE[..cut], &second].concat();
+        for cut in 0..=TRAILED.len() {
+            let bytes = [&TRAILED[..cut], &second].concat();
             let mut offset = 0;
             let mut written = Vec::new();
             for (at, part) in parts(&bytes) {

@@ -1,26 +1,15 @@
 //! The withdrawals' cases by name, their words and sheets written out from the
 //! request.
 
-use crate::cases::{sent, Cases};
+use crate::cases::{sent, Case, Cases};
+use crate::sheet_cases::sheet;
 use crate::wire::Command::{self, Count, Shelve, Withdraw};
 use crate::wire::{opening, refused_word as r, MOST_CAPACITY, MOST_COMMANDS, MOST_STOCK};
 
-/// A stream over capacity 60 with m 6, and all that it comes to.
-struct Case {
-    name: &'static str,
-    stock: u16,
-    /// Each command with its word in either row.
-    answered: &'static [(Command, u16, u32)],
-    /// The items still shelved.
-    items: usize,
-    /// The class, the load and the items held of each bin on the sheet.
-    bins: &'static [(u32, u32, u32)],
-}
-
-const CASES: [Case; 15] = [
+pub const CASES: [Case; 15] = [
     Case {
         name: "a master leaves its cartridge, and the next goes where it lay",
-        stock: 512,
+        opening: opening(60, 512, 6),
         answered: &[
             (Shelve(20), 1, 40),
             (Shelve(20), 1, 20),
@@ -35,7 +24,7 @@ const CASES: [Case; 15] = [
     },
     Case {
         name: "the lowest of the emptied cartridges is chosen first",
-        stock: 512,
+        opening: opening(60, 512, 6),
         answered: &[
             (Shelve(60), 1, 0),
             (Shelve(60), 2, 0),
@@ -52,7 +41,7 @@ const CASES: [Case; 15] = [
     },
     Case {
         name: "counts and totals go by every cartridge ever opened",
-        stock: 3,
+        opening: opening(60, 3, 6),
         answered: &[
             (Shelve(35), 1, 25),
             (Shelve(30), 2, 30),
@@ -71,7 +60,7 @@ const CASES: [Case; 15] = [
     },
     Case {
         name: "an m-th B2 does not go to a class-1 cartridge that is empty",
-        stock: 512,
+        opening: opening(60, 512, 6),
         answered: &[
             (Shelve(35), 1, 25),
             (Withdraw(1), 1, 60),
@@ -91,7 +80,7 @@ const CASES: [Case; 15] = [
     },
     Case {
         name: "an m-th B2 is refused with 10 though a class-1 cartridge is empty",
-        stock: 4,
+        opening: opening(60, 4, 6),
         answered: &[
             (Shelve(35), 1, 25),
             (Withdraw(1), 1, 60),
@@ -111,7 +100,7 @@ const CASES: [Case; 15] = [
     },
     Case {
         name: "an m-th B2 does not go beside a B2 that its A has left",
-        stock: 512,
+        opening: opening(60, 512, 6),
         answered: &[
             (Shelve(35), 1, 25),
             (Shelve(22), 2, 38),
@@ -143,7 +132,7 @@ const CASES: [Case; 15] = [
     },
     Case {
         name: "an m-th B2 goes beside an A that its B2 has left",
-        stock: 512,
+        opening: opening(60, 512, 6),
         answered: &[
             (Shelve(22), 1, 38),
             (Shelve(22), 1, 16),
@@ -172,7 +161,7 @@ const CASES: [Case; 15] = [
     },
     Case {
         name: "the count of B2 masters never goes back",
-        stock: 512,
+        opening: opening(60, 512, 6),
         answered: &[
             (Shelve(22), 1, 38),
             (Withdraw(1), 1, 60),
@@ -194,7 +183,7 @@ const CASES: [Case; 15] = [
     },
     Case {
         name: "refusal 17 on an empty shelf",
-        stock: 512,
+        opening: opening(60, 512, 6),
         answered: &[
             (Withdraw(0), r(17), 0),
             (Withdraw(2), r(17), 0),
@@ -210,7 +199,7 @@ const CASES: [Case; 15] = [
     },
     Case {
         name: "refusal 17 for all that is no master on the shelf",
-        stock: 512,
+        opening: opening(60, 512, 6),
         answered: &[
             (Shelve(35), 1, 25),
             (Shelve(0), r(8), 0),
@@ -238,7 +227,7 @@ const CASES: [Case; 15] = [
     },
     Case {
         name: "a later number is refused, and named again when it is earlier",
-        stock: 512,
+        opening: opening(60, 512, 6),
         answered: &[
             (Withdraw(2), r(17), 0),
             (Shelve(35), 1, 25),
@@ -250,7 +239,7 @@ const CASES: [Case; 15] = [
     },
     Case {
         name: "a master refused with 10 is not on the shelf; 10 comes and goes",
-        stock: 1,
+        opening: opening(60, 1, 6),
         answered: &[
             (Shelve(60), 1, 0),
             (Shelve(60), r(10), 0),
@@ -269,7 +258,7 @@ const CASES: [Case; 15] = [
     },
     Case {
         name: "a refused withdrawal changes nothing",
-        stock: 2,
+        opening: opening(60, 2, 6),
         answered: &[
             (Shelve(22), 1, 38),
             (Withdraw(0), r(17), 0),
@@ -294,7 +283,7 @@ const CASES: [Case; 15] = [
     },
     Case {
         name: "equal masters are told apart by their commands",
-        stock: 512,
+        opening: opening(60, 512, 6),
         answered: &[
             (Shelve(30), 1, 30),
             (Shelve(30), 1, 0),
@@ -309,7 +298,7 @@ const CASES: [Case; 15] = [
     },
     Case {
         name: "what leaves is as large as it came",
-        stock: 512,
+        opening: opening(60, 512, 6),
         answered: &[
             (Shelve(7), 1, 53),
             (Shelve(11), 1, 42),
@@ -326,34 +315,12 @@ const CASES: [Case; 15] = [
 
 pub fn run(cases: &mut Cases) {
     for case in &CASES {
-        let commands: Vec<Command> = case.answered.iter().map(|&(sent, ..)| sent).collect();
-        let words: Vec<u16> = case.answered.iter().map(|&(_, word, _)| word).collect();
-        let free: Vec<u32> = case.answered.iter().map(|&(.., free)| free).collect();
-        let stream = sent(opening(60, case.stock, 6), &commands);
-        let totals = (case.items, case.bins.len());
-        cases.answered(case.name, &stream, (&words, &free), totals);
-        cases.sheet(case.name, stream, &sheet(60, case.bins));
+        cases.shelved(case, &case.stream());
     }
     emptied_of_each_class(cases);
     numbers_of_two_bytes(cases);
     longest_streams(cases);
     widest_figure(cases);
-}
-
-/// The text of a sheet with these classes, loads and items held.
-fn sheet(capacity: u32, bins: &[(u32, u32, u32)]) -> String {
-    let mut text = String::new();
-    for (place, (class, load, held)) in bins.iter().enumerate() {
-        if place % 50 == 0 {
-            text += &format!("PAGE {:>3}{:32}\n", place / 50 + 1, "");
-        }
-        let (number, free) = (place + 1, capacity - load);
-        text += &format!(
-            "{number:>4} {class} {load:>8} {free:>8} {held:>4}{:11}\n",
-            ""
-        );
-    }
-    text
 }
 
 /// An emptied cartridge is chosen by the masters of its class, and by no other:

@@ -2,7 +2,7 @@
 //! shelf, those gone, and what never was one. The shelf that a stream leaves is
 //! known while it is made, by the paper.
 
-use crate::lists::{bad_size, random_opening, random_size, random_sizes, Sizes};
+use crate::lists::{b2_opening, bad_size, random_opening, random_size, random_sizes, Sizes};
 use crate::paper::{Bin, Packing};
 use crate::rng::Rng;
 use crate::streams::{damage, lent, StreamTrial};
@@ -121,8 +121,8 @@ fn half(rng: &mut Rng, opening: Opening, sizes: Sizes, len: usize) -> Stream {
         let command = match rng.between(0, 99) {
             0..=44 => Withdraw(making.name(rng)),
             45..=50 => Count,
-            51..=55 => Shelve(bad_size(rng, opening.capacity)),
-            _ => Shelve(random_size(rng, sizes, opening.capacity)),
+            51..=55 => Shelve(bad_size(rng, opening)),
+            _ => Shelve(random_size(rng, sizes, opening)),
         };
         making.send(command);
     }
@@ -154,7 +154,7 @@ fn emptied(rng: &mut Rng) -> Stream {
     let mut making = Making::new(opening);
     for _ in 0..rng.between(1, 6) {
         for _ in 0..rng.between(1, 14) {
-            making.send(Shelve(random_size(rng, sizes, opening.capacity)));
+            making.send(Shelve(random_size(rng, sizes, opening)));
         }
         for _ in 0..rng.between(1, 3) {
             if !making.shelf.bins.is_empty() {
@@ -173,16 +173,15 @@ fn emptied(rng: &mut Rng) -> Stream {
 /// an m-th B2 finds bins of class 1 that are empty, that hold a B2 alone, and
 /// that hold an A alone.
 fn beside_what_is_gone(rng: &mut Rng) -> Stream {
-    let mut opening = random_opening(rng);
-    opening.capacity = opening.capacity.max(12);
+    let (mut opening, b2) = b2_opening(rng);
     opening.stock = rng.pick(&[3, 6, 12, 20, MOST_STOCK]);
     let c = u64::from(opening.capacity);
-    let b2 = (c / 3 + 1, (2 * c / 5).max(c / 3 + 1));
+    let of_class = |stored: u64| Shelve(opening.bare(stored as u32));
     let mut making = Making::new(opening);
     for _ in 0..rng.between(10, 90) {
         let command = match rng.between(0, 19) {
-            0..=9 => Shelve(rng.between(b2.0, b2.1) as u32),
-            10..=13 => Shelve(rng.between(c / 2 + 1, c - b2.0) as u32),
+            0..=9 => of_class(rng.between(b2.0, b2.1)),
+            10..=13 => of_class(rng.between(c / 2 + 1, c - b2.0)),
             14..=17 => {
                 let bins = making.shelf.bins.iter();
                 let of_class_1 = bins.filter(|bin| bin.class == 1).flat_map(numbers);
@@ -203,7 +202,7 @@ fn spent(rng: &mut Rng) -> Stream {
     let sizes = random_sizes(rng);
     let mut making = Making::new(opening);
     for _ in 0..rng.between(5, 40) {
-        let size = random_size(rng, sizes, opening.capacity);
+        let size = random_size(rng, sizes, opening);
         if making.send(Shelve(size)) {
             continue;
         }
