@@ -6,6 +6,8 @@ use crate::scan::Scan;
 
 const CAPACITY: u32 = 1_000_000;
 const M: u8 = 6;
+/// The trailer of the mix that has one.
+const TRAILER: u16 = 10_000;
 
 pub struct Mix {
     pub name: &'static str,
@@ -17,6 +19,8 @@ pub struct Mix {
 /// What is sent besides items.
 enum Besides {
     Nothing,
+    /// A trailer, with the opening.
+    Trailer,
     /// A count after every item, as panels send them.
     Counts,
     /// About every third command is a withdrawal, of an item on the shelf but
@@ -26,7 +30,7 @@ enum Besides {
     Refills,
 }
 
-pub const MIXES: [Mix; 10] = [
+pub const MIXES: [Mix; 11] = [
     // Any size; the stock is soon spent, and most are refused.
     Mix {
         name: "uniform",
@@ -94,16 +98,25 @@ pub const MIXES: [Mix; 10] = [
         size: |numbers| numbers.between(CAPACITY / 2 + 1, CAPACITY),
         besides: Besides::Refills,
     },
+    // Any size that fits with its trailer; the stock is soon spent.
+    Mix {
+        name: "trailer",
+        size: |numbers| numbers.between(1, CAPACITY - u32::from(TRAILER)),
+        besides: Besides::Trailer,
+    },
 ];
 
 impl Mix {
     /// The stream of this number, the same in every run.
     pub fn stream(&self, seed: u64) -> StreamBuilder {
         let mut numbers = Numbers(seed);
-        let mut making = Making::new();
+        let mut making = match self.besides {
+            Besides::Trailer => Making::with_trailer(TRAILER),
+            _ => Making::new(),
+        };
         while making.stream.commands() < MAX_COMMANDS {
             let withdraws = match self.besides {
-                Besides::Nothing | Besides::Counts => false,
+                Besides::Nothing | Besides::Trailer | Besides::Counts => false,
                 Besides::Withdrawals => numbers.between(1, 3) == 1,
                 Besides::Refills => making.shelved.len() == MAX_STOCK.into(),
             };
@@ -133,9 +146,17 @@ impl Making {
     fn new() -> Self {
         Self {
             stream: StreamBuilder::open(CAPACITY, MAX_STOCK, M),
-            shelf: Scan::open(CAPACITY, MAX_STOCK, M),
+            shelf: Scan::open(CAPACITY, MAX_STOCK, M, 0),
             shelved: Vec::new(),
             gone: Vec::new(),
+        }
+    }
+
+    fn with_trailer(trailer: u16) -> Self {
+        Self {
+            stream: StreamBuilder::open_with_trailer(CAPACITY, MAX_STOCK, M, trailer),
+            shelf: Scan::open(CAPACITY, MAX_STOCK, M, trailer),
+            ..Self::new()
         }
     }
 

@@ -13,8 +13,9 @@ pub struct Scan {
     capacity: u32,
     stock: usize,
     m: u32,
+    trailer: u64,
     bins: Vec<Bin>,
-    /// The place and the size of each command's item, while it is shelved.
+    /// The place and the stored size of each command's item, while it is shelved.
     items: Vec<Option<(usize, u32)>>,
     shelved: u64,
     b2_accepted: u32,
@@ -25,11 +26,12 @@ const fn refused(number: u16) -> (u16, u32) {
 }
 
 impl Scan {
-    pub fn open(capacity: u32, stock: u16, m: u8) -> Self {
+    pub fn open(capacity: u32, stock: u16, m: u8, trailer: u16) -> Self {
         Self {
             capacity,
             stock: stock.into(),
             m: m.into(),
+            trailer: trailer.into(),
             bins: Vec::with_capacity(stock.into()),
             items: Vec::new(),
             shelved: 0,
@@ -37,15 +39,18 @@ impl Scan {
         }
     }
 
-    pub fn shelve(&mut self, size: u32) -> (u16, u32) {
+    pub fn shelve(&mut self, bare: u32) -> (u16, u32) {
         self.items.push(None);
         let capacity = self.capacity;
-        if size == 0 {
+        if bare == 0 {
             return refused(8);
         }
-        if size > capacity {
+        // The sum may pass 32 bits.
+        let stored = u64::from(bare) + self.trailer;
+        if stored > capacity.into() {
             return refused(9);
         }
+        let size = stored as u32;
         let is_a = 2 * size > capacity;
         let is_b2 = 3 * size > capacity && 5 * size <= 2 * capacity;
         let beside_an_a = is_b2 && (self.b2_accepted + 1).is_multiple_of(self.m);
@@ -105,8 +110,11 @@ impl Scan {
 pub fn shelve(stream: &[u8], answers: &mut [u16], free: &mut [u32]) -> u64 {
     let capacity = u32::from_be_bytes([stream[1], stream[2], stream[3], stream[4]]);
     let stock = u16::from_be_bytes([stream[5], stream[6]]);
-    let mut scan = Scan::open(capacity, stock, stream[7]);
-    let mut rest = &stream[8..];
+    let (trailer, mut rest) = match *stream {
+        [0x11, _, _, _, _, _, _, _, t0, t1, ref rest @ ..] => (u16::from_be_bytes([t0, t1]), rest),
+        _ => (0, &stream[8..]),
+    };
+    let mut scan = Scan::open(capacity, stock, stream[7], trailer);
     for (word, left) in answers.iter_mut().zip(free) {
         (*word, *left) = match *rest {
             [0x02, a, b, c, d, ref after @ ..] => {

@@ -1,6 +1,7 @@
 //! The same algorithm by hand: tournament trees in safe Rust; beside them a row
 //! of figures for each bin, as a vault sheet needs them and a count walks, and
-//! the bin and the size of each command's item, for a withdrawal to find them.
+//! the bin and the stored size of each command's item, for a withdrawal to find
+//! them.
 
 use std::hint::black_box;
 
@@ -14,8 +15,8 @@ type Tree = [u32; 2 * MAX_LEAVES];
 /// space, the items that it holds, and how many of these are A.
 type Rows = [[u32; 4]; MAX_LEAVES];
 
-/// The place and the size of each command's item; size 0 where there is none, or
-/// none any more.
+/// The place and the stored size of each command's item; size 0 where there is
+/// none, or none any more.
 type Items = [(u32, u32); MAX_COMMANDS];
 
 const MAX_LEAVES: usize = 512;
@@ -136,6 +137,9 @@ struct Opening {
     capacity: u32,
     stock: usize,
     m: u32,
+    trailer: u32,
+    /// The bytes that it takes.
+    len: usize,
 }
 
 fn refused(number: u64, offset: usize) -> u64 {
@@ -144,14 +148,21 @@ fn refused(number: u64, offset: usize) -> u64 {
 
 /// Finds the first fault, or the opening and the number of commands.
 fn read(stream: &[u8]) -> Result<(Opening, usize), u64> {
-    let opening = match *stream {
-        [0x01, c0, c1, c2, c3, s0, s1, m, ..] => Opening {
-            capacity: u32::from_be_bytes([c0, c1, c2, c3]),
-            stock: u16::from_be_bytes([s0, s1]).into(),
-            m: m.into(),
-        },
-        [0x01, ..] => return Err(refused(3, 0)),
+    let (len, trailer): (_, u16) = match *stream {
+        [0x01, ..] => (8, 0),
+        [0x11, _, _, _, _, _, _, _, t0, t1, ..] => (10, u16::from_be_bytes([t0, t1])),
+        [0x11, ..] => return Err(refused(3, 0)),
         _ => return Err(refused(1, 0)),
+    };
+    let [_, c0, c1, c2, c3, s0, s1, m, ..] = *stream else {
+        return Err(refused(3, 0));
+    };
+    let opening = Opening {
+        capacity: u32::from_be_bytes([c0, c1, c2, c3]),
+        stock: u16::from_be_bytes([s0, s1]).into(),
+        m: m.into(),
+        trailer: trailer.into(),
+        len,
     };
     if !(1..=16_777_216).contains(&opening.capacity)
         || !(1..=512).contains(&opening.stock)
@@ -159,7 +170,7 @@ fn read(stream: &[u8]) -> Result<(Opening, usize), u64> {
     {
         return Err(refused(5, 0));
     }
-    let mut offset = 8;
+    let mut offset = len;
     let mut commands = 0;
     loop {
         // Items by themselves: the branches are foreseen, and wait for nothing.
@@ -174,7 +185,7 @@ fn read(stream: &[u8]) -> Result<(Opening, usize), u64> {
             return Err(refused(6, offset));
         }
         let len = match byte {
-            0x01 => return Err(refused(4, offset)),
+            0x01 | 0x11 => return Err(refused(4, offset)),
             0x02 => 5,
             0x03 => 1,
             0x04 => 3,
@@ -211,7 +222,16 @@ fn shelve_and_enter(
     if answers.len() < commands || free_units.len() < commands {
         return refused(7, stream.len());
     }
-    let Opening { capacity, stock, m } = opening;
+    let Opening {
+        capacity,
+        stock,
+        m,
+        trailer,
+        len,
+    } = opening;
+    // The most that fits beside a trailer. No sum is made of a size above it, so
+    // none passes 32 bits.
+    let most = capacity.saturating_sub(trailer);
     let leaves = stock.next_power_of_two();
     let mut trees: Trees = [[0; 2 * MAX_LEAVES]; 5];
     let mut items: Items = [(0, 0); MAX_COMMANDS];
@@ -219,11 +239,11 @@ fn shelve_and_enter(
     let mut shelved = 0;
     let mut to_next_m = m; // B2 items up to and with the next m-th
 
-    let mut rest = &stream[8..];
+    let mut rest = &stream[len..];
     let words = answers[..commands].iter_mut();
     let words = words.zip(&mut free_units[..commands]);
     for ((word, left), item) in words.zip(0..MAX_COMMANDS) {
-        let size = match *rest {
+        let bare = match *rest {
             [0x02, s0, s1, s2, s3, ref after @ ..] => {
                 rest = after;
                 u32::from_be_bytes([s0, s1, s2, s3])
@@ -250,14 +270,15 @@ fn shelve_and_enter(
             }
             [] => break,
         };
-        if size == 0 {
+        if bare == 0 {
             (*word, *left) = (0x8000 + 8, 0);
             continue;
         }
-        if size > capacity {
+        if bare > most {
             (*word, *left) = (0x8000 + 9, 0);
             continue;
         }
+        let size = bare + trailer;
         // Sizes are at most 2^24, so these products stay within 32 bits.
         let tree = if 3 * size <= capacity {
             4
@@ -327,17 +348,18 @@ mod tests {
     fn the_rows_are_those_of_the_sheet() {
         for mix in &MIXES {
             let (stream, words, free, rows) = shelved(mix);
-            let capacity = Opening::read(stream.bytes()).unwrap().capacity;
+            let opening = Opening::read(stream.bytes()).unwrap();
             let mut expected = [[0; 4]; MAX_LEAVES];
             for (expected, row) in expected.iter_mut().zip(shelf::sheet(stream.bytes()).rows()) {
                 *expected = [row.class.into(), row.free, row.held.into(), 0];
             }
             let mut sizes = Vec::new();
             for (command, answer) in shelf::answers(stream.bytes(), &words, &free) {
-                let a = |size: u32| u32::from(2 * size > capacity);
+                let a = |size: u64| u32::from(2 * size > opening.capacity.into());
                 sizes.push(0);
                 match (command, answer) {
                     (Command::Shelve { size }, Answer::Placed { bin, .. }) => {
+                        let size = opening.stored(size);
                         *sizes.last_mut().unwrap() = size;
                         expected[usize::from(bin) - 1][3] += a(size);
                     }
@@ -363,6 +385,60 @@ mod tests {
         let result = shelve(stream.bytes(), &mut words, &mut free);
         assert_eq!((result, &words[..4]), (1, &[1, 0x8009, 1, 1][..]));
         assert_eq!((words[4..].to_vec(), free[3]), (vec![0x8011; 10], 60));
+    }
+
+    #[test]
+    fn either_opening_is_read_once() {
+        let openings = [
+            StreamBuilder::open(60, 2, 6),
+            StreamBuilder::open_with_trailer(60, 2, 6, 0x0303),
+        ];
+        let shelved = |stream: &[u8]| shelve(stream, &mut [0; 2], &mut [0; 2]);
+        for opening in openings.each_ref() {
+            for cut in 1..opening.bytes().len() {
+                assert_eq!(shelved(&opening.bytes()[..cut]), refused(3, 0));
+            }
+            assert_eq!(shelved(opening.bytes()), 0);
+            let mut counted = opening.clone();
+            let counted = counted.count().bytes();
+            assert_eq!(shelved(counted), 0);
+            for second in openings.each_ref().map(StreamBuilder::bytes) {
+                for cut in 1..=second.len() {
+                    let stream = [counted, &second[..cut]].concat();
+                    assert_eq!(shelved(&stream), refused(4, counted.len()));
+                }
+            }
+            let mut other = opening.bytes().to_vec();
+            other[0] = 0x10;
+            assert_eq!(shelved(&other), refused(1, 0));
+        }
+    }
+
+    #[test]
+    fn the_trailer_is_added_exactly() {
+        for (trailer, sizes, expected) in [
+            (0, [0, 60, 61, u32::MAX], [0x8008, 1, 0x8009, 0x8009]),
+            (1, [0, u32::MAX, 60, 59], [0x8008, 0x8009, 0x8009, 1]),
+            (5, [0, 56, 55, u32::MAX - 4], [0x8008, 0x8009, 1, 0x8009]),
+            (60, [1, 0, u32::MAX, 60], [0x8009, 0x8008, 0x8009, 0x8009]),
+            (
+                65_535,
+                [0, 1, u32::MAX, 4_294_901_761],
+                [0x8008, 0x8009, 0x8009, 0x8009],
+            ),
+        ] {
+            let mut stream = StreamBuilder::open_with_trailer(60, 2, 6, trailer);
+            sizes.iter().for_each(|&size| {
+                stream.shelve(size);
+            });
+            let opened = u64::from(expected.contains(&1));
+            for engine in [shelve, crate::scan::shelve] {
+                let (mut words, mut free) = stream.rows();
+                let result = engine(stream.bytes(), &mut words, &mut free);
+                assert_eq!((result, &words[..]), (opened << 16 | opened, &expected[..]));
+                assert_eq!(free, [0; 4]);
+            }
+        }
     }
 
     #[test]
