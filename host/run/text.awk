@@ -8,10 +8,12 @@ function bad(message) {
     exit 2
 }
 
+function bad_form(form) { bad("the command is `" form "`") }
+
 # The command must have so many operands, of these names.
 function operands(count, names) {
     if (NF - 1 != count)
-        bad("the command is `" $1 (count > 0 ? " " : "") names "`")
+        bad_form($1 (count > 0 ? " " : "") names)
 }
 
 # A number that fits the operand's width. The library knows the limits.
@@ -25,22 +27,31 @@ function number(name, word, largest, limits) {
 
 function must_be_open() {
     if (!opened)
-        bad("the first command must be `open capacity stock m`")
+        bad("the first command must be `" open_form "`")
 }
+
+BEGIN { open_form = "open capacity stock m [trailer]" }
 
 NR == unreadable { bad("not a readable text") }
 
 NF == 0 { next }
 
 $1 == "open" {
-    operands(3, "capacity stock m")
+    if (NF != 4 && NF != 5)
+        bad_form(open_form)
     capacity = number("capacity", $2, 4294967295, "; it must be from 1 to 16777216")
     stock = number("stock", $3, 65535, "; it must be from 1 to 512")
     m = number("m", $4, 255, "; it must be from 6 to 9")
+    byte = "01"
+    trailer = ""
+    if (NF == 5) {
+        byte = "11"
+        trailer = sprintf("%04X", number("trailer", $5, 65535, "; it must be from 0 to 65535"))
+    }
     if (opened)
         bad("the shelf is already open")
     opened = 1
-    printf "%d 01%08X%04X%02X\n", NR, capacity, stock, m
+    printf "%d %s%08X%04X%02X%s\n", NR, byte, capacity, stock, m, trailer
     next
 }
 
@@ -74,6 +85,6 @@ END {
         exit 2
     if (!opened) {
         NR = 1
-        bad("there is no command; the first is `open capacity stock m`")
+        bad("there is no command; the first is `" open_form "`")
     }
 }

@@ -13,14 +13,22 @@ function half(at) { return byte[at] * 256 + byte[at + 1] }
 
 function word(at) { return half(at) * 65536 + half(at + 2) }
 
+# How large a master is, and where there is a trailer, what it takes up.
+function units(size) { return size " units" (trailer ? ", " (size + trailer) " with its trailer" : "") }
+
 # Where each command starts, and what it is called: a master by its size, a withdrawal by the number that it names.
+# Only the opening 11 (hex) has a trailer.
 function walk(    at) {
     start[0] = 0
     at = 8
+    if (byte[0] == 17) {
+        trailer = half(at)
+        at += 2
+    }
     while (at < bytes) {
         start[++commands] = at
         if (byte[at] == 2) {
-            what[commands] = "the master of " word(at + 1) " units"
+            what[commands] = "the master of " units(word(at + 1))
             at += 5
         } else if (byte[at] == 4) {
             what[commands] = "the withdrawal of " half(at + 1)
@@ -39,9 +47,9 @@ function too_many() { say(spot(4097), "this is command 4097; at most 4096 may fo
 
 function refuse_stream(number, offset) {
     if (number == 1)
-        say("byte 0", "the stream " (bytes ? "starts with " hex(0) : "is empty") "; it must start with the opening, 01")
+        say("byte 0", "the stream " (bytes ? "starts with " hex(0) : "is empty") "; it must start with the opening, 01 or 11")
     else if (number == 2)
-        say("byte " offset, "there is no command " hex(offset) ": only 01, 02, 03 and 04")
+        say("byte " offset, "there is no command " hex(offset) ": only 01, 02, 03, 04 and 11")
     else if (number == 3)
         say("byte " offset, "the stream ends before the operands of " hex(offset) " do")
     else if (number == 4)
@@ -62,7 +70,7 @@ function refuse_command(n, number) {
 BEGIN {
     OFMT = CONVFMT = "%.0f"
     why[8] = "size 0"
-    why[9] = "size above the capacity"
+    why[9] = "size and trailer above the capacity"
     why[10] = "a new cartridge is called for and the stock is spent"
     why[17] = "no master of that number is on the shelf"
 }

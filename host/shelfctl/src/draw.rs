@@ -2,7 +2,7 @@
 
 use std::fmt::{self, Write};
 
-use shelf::{Opening, Row};
+use shelf::Row;
 
 use crate::packing::{Bin, Packing};
 
@@ -17,8 +17,7 @@ impl fmt::Display for Drawing<'_> {
     fn fmt(&self, f: &mut fmt::Formatter<'_>) -> fmt::Result {
         let packing = self.0;
         let (used, units) = packing.units();
-        let Opening { capacity, stock, m } = packing.opening;
-        writeln!(f, "capacity {capacity}, stock {stock}, m {m}")?;
+        writeln!(f, "{}", packing.opened_with())?;
         let (items, bins) = (packing.items(), packing.bins.len());
         writeln!(
             f,
@@ -38,7 +37,7 @@ impl fmt::Display for Drawing<'_> {
                 free,
                 ..
             } = bin.row;
-            let bar = bar(bin, capacity);
+            let bar = bar(bin, packing.opening.capacity);
             writeln!(f, "{number:>5}{class:>6}{load:>9}{free:>9} │{bar}│")?;
             if !bin.items.is_empty() {
                 write_items(f, bin)?;
@@ -66,7 +65,7 @@ fn bar(bin: &Bin, capacity: u32) -> String {
     let mut end = 0;
     let mut drawn = 0;
     for item in &bin.items {
-        end += u64::from(item.size);
+        end += item.stored;
         for cell in drawn..cells(end) {
             // A line parts an item from the one before, where there is room.
             let parts = cell == drawn && drawn > 0 && cells(end) - drawn > 1;
@@ -78,11 +77,11 @@ fn bar(bin: &Bin, capacity: u32) -> String {
     bar
 }
 
-/// The sizes under the bar, runs of one size as `SIZExTIMES`.
+/// The stored sizes under the bar, runs of one size as `SIZExTIMES`.
 fn write_items(f: &mut fmt::Formatter<'_>, bin: &Bin) -> fmt::Result {
     let mut line = String::new();
-    for run in bin.items.chunk_by(|a, b| a.size == b.size) {
-        let mut word = run[0].size.to_string();
+    for run in bin.items.chunk_by(|a, b| a.stored == b.stored) {
+        let mut word = run[0].stored.to_string();
         if run.len() > 1 {
             write!(word, "x{}", run.len())?;
         }
@@ -106,7 +105,7 @@ mod tests {
     /// The widest shelf: the most bins, the largest numbers, many sizes.
     #[test]
     fn a_drawing_fits_80_columns() {
-        let mut stream = shelf::StreamBuilder::open(16_777_216, 512, 6);
+        let mut stream = shelf::StreamBuilder::open_with_trailer(16_777_216, 512, 6, 65_535);
         for i in 0..4_096 {
             stream.shelve([9_000_000, 7_000_000, 6_000_000, 40_000 + i][i as usize % 4]);
         }

@@ -23,8 +23,8 @@ impl Format {
         }
     }
 
-    /// What the content says. An accepted stream starts with 01, which no text
-    /// has, so it is never taken for one.
+    /// What the content says. An accepted stream starts with 01 or 11, which no
+    /// text has, so it is never taken for one.
     pub fn of_content(content: &[u8]) -> Self {
         if content.is_empty() || !is_text(content) {
             return Self::Raw;
@@ -85,6 +85,7 @@ mod tests {
         let of = |content: &[u8]| Format::of_content(content);
         assert_eq!(of(b""), Format::Raw);
         assert_eq!(of(b"\x01\0\0\0\x3C\0\x04\x06"), Format::Raw);
+        assert_eq!(of(b"\x11open 60 4 6"), Format::Raw);
         assert_eq!(of(b"open \x7f"), Format::Raw);
         assert_eq!(of(b"caf\xe9"), Format::Raw);
         assert_eq!(of(b"caf\xc3"), Format::Raw);
@@ -100,5 +101,7 @@ mod tests {
         assert!(starts_text(b"caf\xc3"));
         assert!(!starts_text(b"caf\xc3\xff"));
         assert!(!starts_text(b"\0"));
+        assert!(!starts_text(b"\x01open"));
+        assert!(!starts_text(b"\x11open"));
     }
 }

@@ -29,7 +29,12 @@ fn refused(refusal: &str, reasons: &[String]) -> String {
 }
 
 fn accepted(shelved: &Shelved) -> String {
-    let Opening { capacity, stock, m } = shelved.packing.opening;
+    let Opening {
+        capacity,
+        stock,
+        m,
+        trailer,
+    } = shelved.packing.opening;
     let numbered = (1..).zip(&shelved.answers);
     let answers = array(numbered.map(|(number, &answered)| answer(number, answered)));
     let totals = shelved.totals;
@@ -37,7 +42,8 @@ fn accepted(shelved: &Shelved) -> String {
     let cartridges = cartridges(&shelved.packing);
     format!(
         "{{\n\"accepted\": true,\n\
-         \"opening\": {{\"capacity\": {capacity}, \"stock\": {stock}, \"m\": {m}}},\n\
+         \"opening\": {{\"capacity\": {capacity}, \"stock\": {stock}, \"m\": {m}, \
+         \"trailer\": {trailer}}},\n\
          \"answers\": {answers},\n\
          \"totals\": {{\"masters\": {masters}, \"cartridges\": {opened}}},\n\
          \"cartridges\": {cartridges}\n}}\n"
@@ -125,10 +131,10 @@ mod tests {
         let outcome = Outcome::of(&source);
         let expected = r#"{
 "accepted": true,
-"opening": {"capacity": 60, "stock": 1, "m": 6},
+"opening": {"capacity": 60, "stock": 1, "m": 6, "trailer": 0},
 "answers": [
 {"command": 1, "size": 35, "cartridge": 1, "free": 25},
-{"command": 2, "size": 61, "refusal": 9, "reason": "size above the capacity"},
+{"command": 2, "size": 61, "refusal": 9, "reason": "size and trailer above the capacity"},
 {"command": 3, "count": 1},
 {"command": 4, "withdrawn": 1, "cartridge": 1, "free": 60},
 {"command": 5, "withdraw": 1, "refusal": 17, "reason": "no master of that number is on the shelf"},

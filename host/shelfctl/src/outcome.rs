@@ -47,7 +47,7 @@ impl Outcome {
         match self {
             Self::TooLong => words::of_length(source),
             Self::Refused(refusal) => words::of_stream(source, *refusal),
-            Self::Shelved(shelved) => words::of_commands(source, &shelved.answers),
+            Self::Shelved(shelved) => words::of_commands(source, shelved),
         }
     }
 }

@@ -6,7 +6,10 @@ use shelf::{Answer, Command, Opening, Row};
 pub struct Item {
     /// The number of the command that shelved it.
     pub command: usize,
+    /// As the command has it.
     pub size: u32,
+    /// What it takes up: its size and the trailer.
+    pub stored: u64,
 }
 
 pub struct Bin {
@@ -50,7 +53,11 @@ impl Packing {
             match answered {
                 (Command::Shelve { size }, Answer::Placed { bin, .. }) => {
                     let bin = &mut packing.bins[usize::from(bin) - 1];
-                    bin.items.push(Item { command, size });
+                    bin.items.push(Item {
+                        command,
+                        size,
+                        stored: opening.stored(size),
+                    });
                 }
                 (Command::Shelve { .. }, Answer::Refused(_)) => packing.refused += 1,
                 (Command::Withdraw { number }, Answer::Withdrawn { bin, .. }) => {
@@ -62,6 +69,22 @@ impl Packing {
             }
         }
         packing
+    }
+
+    /// What the stream opened with. Where there is a trailer, the sizes shown are
+    /// stored sizes, which add up to the loads.
+    pub fn opened_with(&self) -> String {
+        let Opening {
+            capacity,
+            stock,
+            m,
+            trailer,
+        } = self.opening;
+        let opening = format!("capacity {capacity}, stock {stock}, m {m}");
+        match trailer {
+            0 => opening,
+            trailer => format!("{opening}, trailer {trailer} (sizes include it)"),
+        }
     }
 
     /// What is on no cartridge: how many masters were refused, and how many were
@@ -92,12 +115,11 @@ impl Packing {
 mod tests {
     use super::*;
     use crate::outcome::Shelved;
-    use shelf::Totals;
+    use shelf::{StreamBuilder, Totals};
 
     /// A packing and its totals: every third command takes out what a command
     /// before it shelved, or nothing.
-    fn packing(withdrawals: bool) -> (Packing, Totals) {
-        let mut stream = shelf::StreamBuilder::open(1_000, 90, 7);
+    fn packing(mut stream: StreamBuilder, withdrawals: bool) -> (Packing, Totals) {
         for i in 0..600 {
             stream.shelve(i * 37 % 1_010).count();
             if withdrawals {
@@ -112,8 +134,16 @@ mod tests {
 
     #[test]
     fn the_masters_of_a_cartridge_are_those_of_its_row() {
-        for withdrawals in [false, true] {
-            let (packing, totals) = packing(withdrawals);
+        let plain = StreamBuilder::open(1_000, 90, 7);
+        let trailers = StreamBuilder::open_with_trailer(1_000, 90, 7, 20);
+        let openings = [
+            (&plain, false),
+            (&plain, true),
+            (&trailers, false),
+            (&trailers, true),
+        ];
+        for (opening, withdrawals) in openings {
+            let (packing, totals) = packing(opening.clone(), withdrawals);
             assert_eq!(packing.bins.len(), usize::from(totals.opened));
             assert_eq!(packing.items(), usize::from(totals.items));
             let withdrawn = packing.withdrawn;
@@ -122,14 +152,15 @@ mod tests {
             for (number, Bin { row, items }) in (1..).zip(&packing.bins) {
                 assert_eq!(row.number, number);
                 assert_eq!(usize::from(row.held), items.len());
-                assert_eq!(row.load, items.iter().map(|item| item.size).sum());
+                let load: u64 = items.iter().map(|item| item.stored).sum();
+                assert_eq!(u64::from(row.load), load);
             }
         }
     }
 
     #[test]
     fn refused_withdrawals_are_no_masters() {
-        let mut stream = shelf::StreamBuilder::open(60, 4, 6);
+        let mut stream = StreamBuilder::open(60, 4, 6);
         stream.shelve(35).shelve(61).withdraw(2).withdraw(4);
         let packing = Shelved::of(stream.bytes()).unwrap().packing;
         assert_eq!(packing.elsewhere(), "1 refused");

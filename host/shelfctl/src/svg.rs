@@ -5,6 +5,7 @@ use std::fmt::{self, Write};
 use shelf::Row;
 
 use crate::packing::{Bin, Packing};
+use crate::words;
 
 const ROW: u32 = 34;
 const BAR_HEIGHT: u32 = 22;
@@ -107,7 +108,6 @@ impl fmt::Display for Picture<'_> {
 }
 
 fn header(f: &mut fmt::Formatter<'_>, packing: &Packing) -> fmt::Result {
-    let opening = packing.opening;
     let (used, units) = packing.units();
     let share = (used * 100).checked_div(units).unwrap_or(0);
     writeln!(
@@ -118,11 +118,9 @@ fn header(f: &mut fmt::Formatter<'_>, packing: &Packing) -> fmt::Result {
     )?;
     writeln!(
         f,
-        "<text class=\"note\" x=\"{MARGIN}\" y=\"68\">capacity {}, stock {}, m {}; \
+        "<text class=\"note\" x=\"{MARGIN}\" y=\"68\">{}; \
          {used} of {units} units in use, {share} %; {}</text>",
-        opening.capacity,
-        opening.stock,
-        opening.m,
+        packing.opened_with(),
         packing.elsewhere(),
     )?;
     let mut x = MARGIN;
@@ -194,12 +192,12 @@ fn row(
     let scale = f64::from(bar) / f64::from(packing.opening.capacity);
     let mut start = 0;
     for item in &bin.items {
-        let x = f64::from(left) + f64::from(start) * scale;
-        let width = f64::from(item.size) * scale;
+        let x = f64::from(left) + start as f64 * scale;
+        let width = item.stored as f64 * scale;
         // A hair of background parts the items.
         let shown = if width > 3.0 { width - 1.0 } else { width };
         let radius = if width > 10.0 { 4 } else { 0 };
-        let size = item.size.to_string();
+        let size = item.stored.to_string();
         let mut label = String::new();
         if f64::from(size.len() as u32) * 6.5 + 6.0 < width {
             let centre = x + shown / 2.0;
@@ -210,12 +208,13 @@ fn row(
         }
         writeln!(
             f,
-            "<g><title>command {}: {size} units</title><rect x=\"{x:.2}\" y=\"{top}\" \
+            "<g><title>command {}: {}</title><rect x=\"{x:.2}\" y=\"{top}\" \
              width=\"{shown:.2}\" height=\"{BAR_HEIGHT}\" rx=\"{radius}\" fill=\"{}\"/>{label}</g>",
             item.command,
+            words::units(packing.opening, item.size),
             colour(class),
         )?;
-        start += item.size;
+        start += item.stored;
     }
     writeln!(
         f,

@@ -1,9 +1,12 @@
 //! Streams as people write them: a text of commands, or hex.
 
-use shelf::{StreamBuilder, MAX_CAPACITY, MAX_COMMANDS, MAX_M, MAX_STOCK, MIN_M};
+use shelf::{StreamBuilder, MAX_CAPACITY, MAX_COMMANDS, MAX_M, MAX_STOCK, MAX_TRAILER, MIN_M};
 
 use crate::format::is_text;
 use crate::source::Source;
+
+/// How a stream is opened in a text.
+const OPEN: &str = "open capacity stock m [trailer]";
 
 /// What is wrong with a text, and where.
 #[derive(Debug, PartialEq, Eq)]
@@ -66,8 +69,12 @@ impl<'a> Line<'a> {
     pub fn operands<const N: usize>(&self, names: [&str; N]) -> Result<[&'a str; N], BadText> {
         self.operands.as_slice().try_into().or_else(|_| {
             let form = [&[self.command], names.as_slice()].concat().join(" ");
-            bad(self.number, format!("the command is `{form}`"))
+            self.bad_form(&form)
         })
+    }
+
+    fn bad_form<T>(&self, form: &str) -> Result<T, BadText> {
+        bad(self.number, format!("the command is `{form}`"))
     }
 
     /// A number that fits the operand's width. The library knows the limits.
@@ -93,8 +100,9 @@ impl<'a> Line<'a> {
     }
 }
 
-/// Writes the stream of a text with one command a line: `open CAPACITY STOCK
-/// M`, then `shelve SIZE`, `count` and `withdraw NUMBER`. `#` starts a comment.
+/// Writes the stream of a text with one command a line: `open CAPACITY STOCK M`
+/// or `open CAPACITY STOCK M TRAILER`, then `shelve SIZE`, `count` and `withdraw
+/// NUMBER`. `#` starts a comment.
 pub fn read_text(text: &[u8]) -> Result<Source, BadText> {
     let mut stream: Option<StreamBuilder> = None;
     let mut places = Vec::new();
@@ -133,29 +141,36 @@ pub fn read_text(text: &[u8]) -> Result<Source, BadText> {
     }
     match stream {
         Some(stream) => Ok(Source::of_text(stream.into_bytes(), places)),
-        None => bad(
-            1,
-            "there is no command; the first is `open capacity stock m`",
-        ),
+        None => bad(1, format!("there is no command; the first is `{OPEN}`")),
     }
 }
 
 fn read_open(line: &Line<'_>) -> Result<StreamBuilder, BadText> {
-    let [capacity, stock, m] = line.operands(["capacity", "stock", "m"])?;
+    let (&[capacity, stock, m], trailer) = match line.operands.split_first_chunk() {
+        Some((operands, [])) => (operands, None),
+        Some((operands, [trailer])) => (operands, Some(trailer)),
+        _ => return line.bad_form(OPEN),
+    };
     let capacities = (1, MAX_CAPACITY.into());
     let stocks = (1, MAX_STOCK.into());
     let ms = (MIN_M.into(), MAX_M.into());
-    Ok(StreamBuilder::open(
-        line.value("capacity", capacity, Some(capacities))?,
-        line.value("stock", stock, Some(stocks))?,
-        line.value("m", m, Some(ms))?,
-    ))
+    let trailers = (0, MAX_TRAILER.into());
+    let capacity = line.value("capacity", capacity, Some(capacities))?;
+    let stock = line.value("stock", stock, Some(stocks))?;
+    let m = line.value("m", m, Some(ms))?;
+    Ok(match trailer {
+        None => StreamBuilder::open(capacity, stock, m),
+        Some(trailer) => {
+            let trailer = line.value("trailer", trailer, Some(trailers))?;
+            StreamBuilder::open_with_trailer(capacity, stock, m, trailer)
+        }
+    })
 }
 
 fn opened(stream: &mut Option<StreamBuilder>, line: usize) -> Result<&mut StreamBuilder, BadText> {
     match stream {
         Some(stream) => Ok(stream),
-        None => bad(line, "the first command must be `open capacity stock m`"),
+        None => bad(line, format!("the first command must be `{OPEN}`")),
     }
 }
 
@@ -205,6 +220,16 @@ mod tests {
     }
 
     #[test]
+    fn a_trailer_has_an_opening_of_its_own() {
+        let opening = [0x11, 0, 0, 0, 60, 0, 4, 6];
+        for (trailer, written) in [("0", [0, 0]), ("3", [0, 3]), ("65535", [255, 255])] {
+            let text = format!("open 60 4 6 {trailer}\ncount");
+            let stream = [&opening[..], &written, &[3]].concat();
+            assert_eq!(bytes(text.as_bytes()).unwrap(), stream);
+        }
+    }
+
+    #[test]
     fn the_mark_of_utf8_and_carriage_returns_are_skipped() {
         let stream = [1, 0, 0, 0, 60, 0, 4, 6, 3];
         let text = b"\xef\xbb\xbfopen 60 4 6\r\n\x0ccount\r\n";
@@ -218,6 +243,9 @@ mod tests {
         let source = read_text(b"\nopen 60 4 6\ncount\n\n\nshelve 3").unwrap();
         let lines = [0, 7, 8, 9, 13].map(|offset| source.spot(offset));
         assert_eq!(lines, [2, 2, 3, 6, 6].map(Spot::Line));
+        let source = read_text(b"open 60 4 6 3\ncount\n\ncount").unwrap();
+        let lines = [0, 9, 10, 11].map(|offset| source.spot(offset));
+        assert_eq!(lines, [1, 1, 2, 4].map(Spot::Line));
         assert_eq!(Source::raw(vec![]).spot(7), Spot::Byte(7));
     }
 
@@ -248,6 +276,11 @@ mod tests {
         assert!(too_large.1.ends_with("from 1 to 4096"), "{too_large:?}");
         assert_eq!(fault("open 60 65536 6").0, 1);
         assert_eq!(fault("open 60 4 256").0, 1);
+        for trailer in ["-1", "x", "65536", "3 3"] {
+            assert_eq!(fault(&format!("\nopen 60 4 6 {trailer}")).0, 2);
+        }
+        assert_eq!(fault("open 60 4 6\n\nopen 60 4 6 3").0, 3);
+        assert_eq!(fault("open 60 4").1, format!("the command is `{OPEN}`"));
         assert_eq!(bytes(b"open 60 4 6\n\xff").unwrap_err().line, 2);
         assert_eq!(bytes(b"open 60 4 6\n\x1b[m").unwrap_err().line, 2);
         assert!(bytes(b"open 60 4 6 # \xff").is_ok());

@@ -7,6 +7,7 @@ use shelf::{
     MAX_STOCK, MIN_M,
 };
 
+use crate::outcome::Shelved;
 use crate::source::{Source, MAX_STREAM};
 
 /// A long list of refused commands is cut here.
@@ -19,7 +20,7 @@ pub fn of_stream(source: &Source, refusal: StreamRefusal) -> Vec<String> {
         StreamFault::UnknownCommand => {
             let byte = source.bytes[refusal.offset];
             vec![format!(
-                "there is no command {byte:02X}: only 01, 02, 03 and 04"
+                "there is no command {byte:02X}: only 01, 02, 03, 04 and 11"
             )]
         }
         StreamFault::CutShort => {
@@ -42,7 +43,7 @@ fn not_opened(stream: &[u8]) -> String {
         Some(byte) => format!("starts with {byte:02X}"),
         None => "is empty".to_string(),
     };
-    format!("the stream {found}; it must start with the opening, 01")
+    format!("the stream {found}; it must start with the opening, 01 or 11")
 }
 
 fn too_many_commands() -> String {
@@ -51,11 +52,11 @@ fn too_many_commands() -> String {
 }
 
 fn outside_limits(stream: &[u8]) -> Vec<String> {
-    let Opening { capacity, stock, m } = Opening::read(stream).expect("refused for its limits");
+    let opening = Opening::read(stream).expect("refused for its limits");
     let operands = [
-        outside("capacity", capacity, 1, MAX_CAPACITY),
-        outside("stock", stock, 1, MAX_STOCK),
-        outside("m", m, MIN_M, MAX_M),
+        outside("capacity", opening.capacity, 1, MAX_CAPACITY),
+        outside("stock", opening.stock, 1, MAX_STOCK),
+        outside("m", opening.m, MIN_M, MAX_M),
     ];
     operands.into_iter().flatten().collect()
 }
@@ -84,15 +85,24 @@ pub fn of_length(source: &Source) -> Vec<String> {
     many.into_iter().chain([long]).collect()
 }
 
+/// How large a master is, and where there is a trailer, what it takes up.
+pub fn units(opening: Opening, size: u32) -> String {
+    match opening.trailer {
+        0 => format!("{size} units"),
+        _ => format!("{size} units, {} with its trailer", opening.stored(size)),
+    }
+}
+
 /// Which commands of an accepted stream were refused, and why.
-pub fn of_commands(source: &Source, answers: &[(Command, Answer)]) -> Vec<String> {
+pub fn of_commands(source: &Source, shelved: &Shelved) -> Vec<String> {
     let mut sentences = Vec::new();
     let mut more = 0;
     let offsets = shelf::commands(&source.bytes).map(|(offset, _)| offset);
-    for (number, (answered, offset)) in (1..).zip(answers.iter().zip(offsets)) {
+    for (number, (answered, offset)) in (1..).zip(shelved.answers.iter().zip(offsets)) {
         let (what, why) = match answered {
             (Command::Shelve { size }, Answer::Refused(why)) => {
-                (format!("the master of {size} units"), why)
+                let units = units(shelved.packing.opening, *size);
+                (format!("the master of {units}"), why)
             }
             (Command::Withdraw { number }, Answer::Refused(why)) => {
                 (format!("the withdrawal of {number}"), why)
@@ -120,7 +130,6 @@ pub fn of_commands(source: &Source, answers: &[(Command, Answer)]) -> Vec<String
 #[cfg(test)]
 mod tests {
     use super::*;
-    use crate::outcome::Shelved;
     use crate::text::read_text;
 
     fn refusal(stream: &[u8]) -> StreamRefusal {
@@ -136,15 +145,15 @@ mod tests {
     fn a_refused_stream_is_explained() {
         assert_eq!(
             refused(b""),
-            ["byte 0: the stream is empty; it must start with the opening, 01"]
+            ["byte 0: the stream is empty; it must start with the opening, 01 or 11"]
         );
         assert_eq!(
             refused(b"o"),
-            ["byte 0: the stream starts with 6F; it must start with the opening, 01"]
+            ["byte 0: the stream starts with 6F; it must start with the opening, 01 or 11"]
         );
         assert_eq!(
             refused(&[1, 0, 0, 0, 60, 0, 4, 6, 3, 7]),
-            ["byte 9: there is no command 07: only 01, 02, 03 and 04"]
+            ["byte 9: there is no command 07: only 01, 02, 03, 04 and 11"]
         );
         assert_eq!(
             refused(&[1, 0, 0, 0, 60, 0, 4, 6, 2, 0]),
@@ -157,6 +166,14 @@ mod tests {
         assert_eq!(
             refused(&[1, 0, 0, 0, 60, 0, 4, 6, 1]),
             ["byte 8: a second opening; a stream has one"]
+        );
+        assert_eq!(
+            refused(&[0x11, 0, 0, 0, 60, 0, 4, 6, 0]),
+            ["byte 0: the stream ends before the operands of 11 do"]
+        );
+        assert_eq!(
+            refused(&[0x11, 0, 0, 0, 60, 0, 4, 6, 0, 3, 3, 0x11]),
+            ["byte 11: a second opening; a stream has one"]
         );
         assert_eq!(
             refused(&[1, 0, 0, 0, 0, 2, 1, 10]),
@@ -183,7 +200,7 @@ mod tests {
         let source = read_text(text.as_bytes());
         let source = source.unwrap_or_else(|_| panic!("a good text"));
         let shelved = Shelved::of(&source.bytes).unwrap();
-        of_commands(&source, &shelved.answers)
+        of_commands(&source, &shelved)
     }
 
     #[test]
@@ -193,11 +210,29 @@ mod tests {
             listed(text),
             [
                 "line 2: the master of 61 units (command 1) was refused with 9: \
-                 size above the capacity",
+                 size and trailer above the capacity",
                 "line 5: the withdrawal of 1 (command 3) was refused with 17: \
                  no master of that number is on the shelf",
                 "line 7: the withdrawal of 2 (command 5) was refused with 17: \
                  no master of that number is on the shelf",
+            ]
+        );
+    }
+
+    #[test]
+    fn a_refused_master_is_told_with_its_trailer() {
+        let text = "open 60 1 6 3\nshelve 58\nshelve 0\nshelve 57\nshelve 4294967295\nshelve 17";
+        assert_eq!(
+            listed(text),
+            [
+                "line 2: the master of 58 units, 61 with its trailer (command 1) was refused \
+                 with 9: size and trailer above the capacity",
+                "line 3: the master of 0 units, 3 with its trailer (command 2) was refused \
+                 with 8: size 0",
+                "line 5: the master of 4294967295 units, 4294967298 with its trailer \
+                 (command 4) was refused with 9: size and trailer above the capacity",
+                "line 6: the master of 17 units, 20 with its trailer (command 5) was refused \
+                 with 10: a new cartridge is called for and the stock is spent",
             ]
         );
     }
