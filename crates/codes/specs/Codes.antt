@@ -11,7 +11,7 @@ use Rattle.worst_case.specs.PlanFits.{Fits}
 abbrev pub refusalCode : (number place : ℕ) → ℕ
 refusalCode number place = 2 ^ 63 + number * 2 ^ 32 + place
 
--- Accepted: items x 65,536 + bins.
+-- Accepted: items x 65,536 + bins, both totals of the two productions.
 abbrev pub streamCode : StreamResult → ℕ
 streamCode (StreamResult.Accepted items opened) = items * 65_536 + opened
 streamCode (StreamResult.Refused reason offset) = refusalCode (streamNumber reason) offset

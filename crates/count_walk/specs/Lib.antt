@@ -1,2 +1,2 @@
--- What a count hands back after a stream.
+-- What a count hands back after a stream, in each production.
 pub mod After

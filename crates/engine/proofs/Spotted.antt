@@ -1,4 +1,5 @@
--- The spot that the search has for an item is where the model puts the item; if it has none, the model refuses the item with 10.
+-- The spot that the search has for an item is where the model puts the item, with so much of the stock left; if it has none, the model refuses the item
+-- with 10.
 use mathlib.Core.Path.{_≡_, sym, ap, _∙_}
 use mathlib.Core.Logic.{⊎-elim}
 use mathlib.Core.Bool.{true, false, and-false}
@@ -36,14 +37,14 @@ use Rattle.engine.specs.Spots.{joined, anew, spotAt, spotFor}
 use Rattle.engine.proofs.Aimed.{Aimed, tree-few, aimed}
 
 -- A spot is the model's, for an item that is searched for in tree n.
-pub record IsSpot (o : Opening) (p : Packing) (number size n : ℕ) (s : Spot) : Type 0 where
-  pub in-stock : spent o p (item number size) ≡ false
+pub record IsSpot (o : Opening) (left : ℕ) (p : Packing) (number size n : ℕ) (s : Spot) : Type 0 where
+  pub in-stock : spent o p (item number size) left ≡ false
   pub place-is : s .place ≡ passed o p (item number size)
   pub opened-is : s .opened ≡ max (opened p) (binFor o p (item number size))
   pub class-is : chosen o p (item number size) .class ≡ home n
   pub free-is : s .free ≡ o .capacity - (size + load (chosen o p (item number size)))
 
-module _ {o : Opening} {c : Counters} {size n : ℕ} (a : Aimed o c size n) (number : ℕ)
+module _ {o : Opening} {c : Counters} {size n : ℕ} (a : Aimed o c size n) (left number : ℕ)
     {shape : Shape} {t : List ℕ} {ledger notes : List (List ℕ)} (x : Indexes shape t ledger) {p : Packing} (r : Represents o (store t ledger notes c) p) where
   abbrev it : Item
   it = item number size
@@ -79,7 +80,7 @@ module _ {o : Opening} {c : Counters} {size n : ℕ} (a : Aimed o c size n) (num
     space : shownAt t shape n i ≡ o .capacity - load (chosen o p it)
     space = offer i within ∙ rw grouped (ap freeIn row-is)
 
-    is-joined : IsSpot o p number size n (joined o shape t (c .opened) n size i)
+    is-joined : IsSpot o left p number size n (joined o left shape t (c .opened) n size i)
     is-joined = record {
       in-stock = rw (found-at, le-ltb (opened p) (suc i) (omega (arith, there)));
       place-is = sym found-at;
@@ -98,46 +99,46 @@ module _ {o : Opening} {c : Counters} {size n : ℕ} (a : Aimed o c size n) (num
     chosen-new : chosen o p it ≡ newBin o p it
     chosen-new = rw none-at (List·getD-eq-default (p .bins) (newBin o p it) (omega arith))
 
-    is-anew : c .opened < o .stock → IsSpot o p number size n (anew o shape t (c .opened) n size)
+    is-anew : c .opened < left → IsSpot o left p number size n (anew o left shape t (c .opened) n size)
     unfolding total
     is-anew l = record {
-      in-stock = rw (none-at, lt-leb (o .stock) (opened p) (omega (arith, r .bins)), and-false);
+      in-stock = rw (none-at, lt-leb left (opened p) (omega (arith, r .bins)), and-false);
       place-is = r .bins ∙ sym none-at;
       opened-is = omega (arith, r .bins, none-at);
       class-is = ap (λ (b : Bin). b .class) chosen-new ∙ ap classOf (aimed a r number);
       free-is = rw chosen-new (omega arith);
     }
 
-    spends : (bare : ℕ) → 1 ≤ bare → o .stock ≤ c .opened → decision o p it bare ≡ refusing StockSpent
+    spends : (bare : ℕ) → 1 ≤ bare → left ≤ c .opened → decision o p it left bare ≡ refusing StockSpent
     spends bare some l =
-        let none : spent o p it ≡ true =
-        rw (none-at, lt-ltb (opened p) (suc (opened p)) (omega arith), le-leb (o .stock) (opened p) (omega (arith, r .bins))) in
-        decides o p it bare (refusing StockSpent) (is-spent some (a .fits) none)
+        let none : spent o p it left ≡ true =
+        rw (none-at, lt-ltb (opened p) (suc (opened p)) (omega arith), le-leb left (opened p) (omega (arith, r .bins))) in
+        decides o p it left bare (refusing StockSpent) (is-spent some (a .fits) none)
 
 -- What the search says of an item, by what it has for it, whatever its bare size is.
-pub record Spotted (o : Opening) (shape : Shape) (w : Store) (number size n : ℕ) (s : Spot) : Type 0 where
+pub record Spotted (o : Opening) (left : ℕ) (shape : Shape) (w : Store) (number size n : ℕ) (s : Spot) : Type 0 where
   pub inside : s .place < shape .places
   pub stock : s .opened ≤ o .stock
-  pub model : (p : Packing) → Represents o w p → IsSpot o p number size n s
+  pub model : (p : Packing) → Represents o w p → IsSpot o left p number size n s
 
-abbrev pub Says : Opening → Shape → Store → (number size n : ℕ) → Offer → Type 0
-Says o shape w number size n (Here s) = Spotted o shape w number size n s
-Says o shape w number size n Spent = (p : Packing) → Represents o w p → (bare : ℕ) → 1 ≤ bare → decision o p (item number size) bare ≡ refusing StockSpent
+abbrev pub Says : Opening → (left : ℕ) → Shape → Store → (number size n : ℕ) → Offer → Type 0
+Says o left shape w number size n (Here s) = Spotted o left shape w number size n s
+Says o left shape w number size n Spent = (p : Packing) → Represents o w p → (bare : ℕ) → 1 ≤ bare → decision o p (item number size) left bare ≡ refusing StockSpent
 
-pub says : {o : Opening} {c : Counters} {size n : ℕ} → Aimed o c size n → (number : ℕ) {shape : Shape} {t : List ℕ} {ledger notes : List (List ℕ)}
-    → Sound o shape (store t ledger notes c) → Says o shape (store t ledger notes c) number size n (spotFor o shape t (c .opened) n size)
-says {o} {c} {size} {n} a number {shape} {t} {ledger} {notes} sound = go (lowestFit size (shownBy t shape n)) (meaning size (shownBy t shape n))
+pub says : {o : Opening} {c : Counters} {size n : ℕ} → Aimed o c size n → (left number : ℕ) {shape : Shape} {t : List ℕ} {ledger notes : List (List ℕ)}
+    → left ≤ o .stock → Sound o shape (store t ledger notes c) → Says o left shape (store t ledger notes c) number size n (spotFor o left shape t (c .opened) n size)
+says {o} {c} {size} {n} a left number {shape} {t} {ledger} {notes} left-few sound = go (lowestFit size (shownBy t shape n)) (meaning size (shownBy t shape n))
   where
-    go : (f : Found) → Meaning size (shownBy t shape n) f → Says o shape (store t ledger notes c) number size n (spotAt o shape t (c .opened) n size f)
+    go : (f : Found) → Meaning size (shownBy t shape n) f → Says o left shape (store t ledger notes c) number size n (spotAt o left shape t (c .opened) n size f)
     go (At i) f =
         let within : i < shape .places = omega (arith, f .inside, leaf-count (sound .index .forest) n (tree-few a)) in
-        record { inside = within; stock = sound .within; model = λ p r. is-joined a number (sound .index) r f within }
+        record { inside = within; stock = sound .within; model = λ p r. is-joined a left number (sound .index) r f within }
     go Nothing f =
         let all : length (shownBy t shape n) ≡ shape .places = leaf-count (sound .index .forest) n (tree-few a) in
         let none : (k : ℕ) → k < shape .places → shownAt t shape n k < size = λ k l. f k (omega arith) in
         let few : c .opened ≤ shape .places = omega (arith, sound .within, sound .stock) in
         ⊎-elim
-        (λ q. let l : c .opened < o .stock = leb-false (o .stock) (c .opened) q in
-        rw q (record { inside = omega (arith, sound .stock); stock = omega arith; model = λ p r. is-anew a number (sound .index) r none few l }))
-        (λ q. rw q (λ p r bare some. spends a number (sound .index) r none few bare some (leb-true (o .stock) (c .opened) q)))
-        (dichotomy (leb (o .stock) (c .opened)))
+        (λ q. let l : c .opened < left = leb-false left (c .opened) q in
+        rw q (record { inside = omega (arith, sound .stock); stock = omega arith; model = λ p r. is-anew a left number (sound .index) r none few l }))
+        (λ q. rw q (λ p r bare some. spends a left number (sound .index) r none few bare some (leb-true left (c .opened) q)))
+        (dichotomy (leb left (c .opened)))

@@ -1,4 +1,4 @@
--- The ways out of a step, each a law over what the code knows there.
+-- The ways out of a step, each a law over what the code knows there, with so much of the stock left.
 use mathlib.Core.Path.{_≡_, refl, sym, ap, _∙_}
 use mathlib.Core.Logic.{_⊎_, inl, inr, ⊎-elim}
 use mathlib.Core.List.{List, [], _∷_}
@@ -33,13 +33,13 @@ use Rattle.engine.proofs.Aimed.{Aimed, phase-few, a-more, phase-after}
 use Rattle.engine.proofs.Spotted.{IsSpot, Spotted}
 
 -- What is decided of an item is what its command is answered.
-pub refused-so : (o : Opening) (p : Packing) (number size : ℕ) {reason : ItemReason} → decision o p (item number (stored o size)) size ≡ refusing reason
-    → answerTo o p number (Shelve size) ≡ Refused reason
-refused-so o p number size e = ap (told o (placed o p (item number (stored o size)))) e
+pub refused-so : (o : Opening) (left : ℕ) (p : Packing) (number size : ℕ) {reason : ItemReason} → decision o p (item number (stored o size)) left size ≡ refusing reason
+    → answerTo o left p number (Shelve size) ≡ Refused reason
+refused-so o left p number size e = ap (told o (placed o p (item number (stored o size)))) e
 
 -- Refused: the store stays.
-pub done-refused : {o : Opening} {shape : Shape} {w : Store} {number : ℕ} {command : Command} {reason : ItemReason} → Sound o shape w
-    → ((p : Packing) → Represents o w p → answerTo o p number command ≡ Refused reason) → Done o shape w number command (answering number (Refused reason)) w
+pub done-refused : {o : Opening} {left : ℕ} {shape : Shape} {w : Store} {number : ℕ} {command : Command} {reason : ItemReason} → Sound o shape w
+    → ((p : Packing) → Represents o w p → answerTo o left p number command ≡ Refused reason) → Done o left shape w number command (answering number (Refused reason)) w
 done-refused sound m = record {
   sound = sound;
   numbered = refl;
@@ -52,18 +52,18 @@ abbrev noting : (notes : List (List ℕ)) (number place size : ℕ) → List (Li
 noting notes number place size = set notes number ((place + 1) ∷ size ∷ [])
 
 -- Placed in a spot that is the model's: the item is entered in the ledger and noted, and then the row is shown. The bare size is not 0.
-module _ {o : Opening} {c : Counters} {bare n : ℕ} (some : 1 ≤ bare) (a : Aimed o c (stored o bare) n) {s : Spot} {shape : Shape} {t u : List ℕ} {ledger ledger′ notes : List (List ℕ)} {row : List ℕ}
+module _ {o : Opening} {left : ℕ} {c : Counters} {bare n : ℕ} (some : 1 ≤ bare) (a : Aimed o c (stored o bare) n) {s : Spot} {shape : Shape} {t u : List ℕ} {ledger ledger′ notes : List (List ℕ)} {row : List ℕ}
     (e : Entered ledger (s .place) (home n) (s .free) (aFor n) row ledger′) (d : Shown shape t (s .place) row u) (inside : s .place < places) (number : ℕ) where
-  module _ {p : Packing} (r : Represents o (store t ledger notes c) p) (m : IsSpot o p number (stored o bare) n s) where
+  module _ {p : Packing} (r : Represents o (store t ledger notes c) p) (m : IsSpot o left p number (stored o bare) n s) where
     entry : IsEntry o p (item number (stored o bare)) (s .place) (home n) (s .free) (aFor n)
     entry = record { fits = a .fits; place-is = m .place-is; class-is = sym (m .class-is); free-is = m .free-is; a-is = a-more a number }
 
     modelled : number < numbers → binIn (noteAt notes number) ≡ 0
-        → Modelled o number (Shelve bare) (Placed (s .place + 1) (s .free)) (store u ledger′ (noting notes number (s .place) (stored o bare)) (accepting n (s .opened) (o .m) c)) p
+        → Modelled o left number (Shelve bare) (Placed (s .place + 1) (s .free)) (store u ledger′ (noting notes number (s .place) (stored o bare)) (accepting n (s .opened) (o .m) c)) p
     modelled numbered new =
         let i = item number (stored o bare) in
-        let goes : decision o p i bare ≡ into (binFor o p i) =
-        decides o p i bare _ (goes-in (record { some = some; within-capacity = a .fits; not-spent = m .in-stock })) in
+        let goes : decision o p i left bare ≡ into (binFor o p i) =
+        decides o p i left bare _ (goes-in (record { some = some; within-capacity = a .fits; not-spent = m .in-stock })) in
         let bin : s .place + 1 ≡ binFor o p i = omega (arith, m .place-is) in
         record {
           answered = rw (goes, free-left o p i, ← m .free-is) (ap (λ bin. Placed bin (s .free)) bin);
@@ -84,8 +84,8 @@ module _ {o : Opening} {c : Counters} {bare n : ℕ} (some : 1 ≤ bare) (a : Ai
         let new : classIn row ≡ home n = ap classIn (e .row-is) in
         ⊎-elim inl (λ same. inr (same ∙ m .class-is ∙ sym new)) (row-before (r .records) inside entry .class)
 
-  pub done-placed : Ready o shape number (store t ledger notes c) → Spotted o shape (store t ledger notes c) number (stored o bare) n s
-      → Done o shape (store t ledger notes c) number (Shelve bare) (answering number (Placed (s .place + 1) (s .free)))
+  pub done-placed : Ready o left shape number (store t ledger notes c) → Spotted o left shape (store t ledger notes c) number (stored o bare) n s
+      → Done o left shape (store t ledger notes c) number (Shelve bare) (answering number (Placed (s .place + 1) (s .free)))
       (store u ledger′ (noting notes number (s .place) (stored o bare)) (accepting n (s .opened) (o .m) c))
   done-placed ready w =
       let sound = ready .sound in
@@ -99,7 +99,7 @@ module _ {o : Opening} {c : Counters} {bare n : ℕ} (some : 1 ≤ bare) (a : Ai
           within = w .stock;
           phase = phase-few a;
           b2 = refl;
-          packing = next o (sound .packing) number (Shelve bare);
+          packing = next o left (sound .packing) number (Shelve bare);
           represents = modelled then there (ready .numbered) (ready .new) .represents;
         };
         numbered = refl;

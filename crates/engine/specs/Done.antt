@@ -1,4 +1,4 @@
--- What a step promises: at every packing that the store represents, the model's answer and the model's next packing.
+-- What a step promises: at every packing that the store represents, the model's answer and the model's next packing, with so much of the stock left for it.
 use mathlib.Core.Path.{_≡_}
 use Prim.Native.Nat.{ℕ}
 use Rattle.packing.specs.declared.{Opening.Opening, Command.Command, Outcome.Outcome, Answer.Answer, ItemReason.ItemReason}
@@ -10,7 +10,7 @@ use Rattle.aim.specs.declared.Counters.{Counters}
 use Rattle.engine.specs.declared.Answered.{Answered}
 use Rattle.engine.specs.Store.{Store, Sound, Represents}
 
--- "An answer joins the command's number with placed, counted or refused", or withdrawn.
+-- "An answer joins the command's number with placed, counted or refused", or withdrawn or switched.
 abbrev pub answering : ℕ → Outcome → Answer
 answering number a = record { number = number; outcome = a }
 
@@ -18,14 +18,14 @@ answering number a = record { number = number; outcome = a }
 abbrev pub giving : ℕ → Outcome → Counters → Answered
 giving number a c = record { answer = answering number a; next = c }
 
-pub record Modelled (o : Opening) (number : ℕ) (command : Command) (a : Outcome) (u : Store) (p : Packing) : Type 0 where
-  pub answered : a ≡ answerTo o p number command
-  pub represents : Represents o u (next o p number command)
+pub record Modelled (o : Opening) (left number : ℕ) (command : Command) (a : Outcome) (u : Store) (p : Packing) : Type 0 where
+  pub answered : a ≡ answerTo o left p number command
+  pub represents : Represents o u (next o left p number command)
 
 -- From the store s, the command of this number is answered so and leaves the store u.
-pub record Done (o : Opening) (shape : Shape) (s : Store) (number : ℕ) (command : Command) (r : Answer) (u : Store) : Type 0 where
+pub record Done (o : Opening) (left : ℕ) (shape : Shape) (s : Store) (number : ℕ) (command : Command) (r : Answer) (u : Store) : Type 0 where
   pub sound : Sound o shape u
   pub numbered : r .number ≡ number
-  pub model : (p : Packing) → Represents o s p → Modelled o number command (r .outcome) u p
+  pub model : (p : Packing) → Represents o s p → Modelled o left number command (r .outcome) u p
   -- A refused command leaves every word as it was.
   pub refused : (reason : ItemReason) → r .outcome ≡ Refused reason → u ≡ s

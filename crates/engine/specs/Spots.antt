@@ -1,4 +1,4 @@
--- Where an item goes that is searched for in a tree, by what first fit finds there.
+-- Where an item goes that is searched for in a tree, by what first fit finds there and by what is left of the stock.
 use mathlib.Core.List.{List}
 use Prim.Native.Nat.{ℕ, _+_, _-_}
 use lib.Dec.{leb}
@@ -11,7 +11,7 @@ use Rattle.engine.specs.declared.{Spot.Spot, Offer.Offer}
 use Rattle.engine.specs.declared.Offer.the-variants.{Here, Spent}
 use Rattle.index.specs.Trees.{shownBy, shownAt}
 
-module _ (o : Opening) (shape : Shape) (trees : List ℕ) (opened tree size : ℕ) where
+module _ (o : Opening) (left : ℕ) (shape : Shape) (trees : List ℕ) (opened tree size : ℕ) where
   -- in the bin at place i
   abbrev pub joined : (i : ℕ) → Spot
   joined i = record { place = i; free = shownAt trees shape tree i - size; opened = opened }
@@ -22,7 +22,7 @@ module _ (o : Opening) (shape : Shape) (trees : List ℕ) (opened tree size : �
 
   abbrev pub spotAt : Found → Offer
   spotAt (At i) = Here (joined i)
-  spotAt Nothing = if leb (o .stock) opened then Spent else Here anew
+  spotAt Nothing = if leb left opened then Spent else Here anew
 
   abbrev pub spotFor : Offer
   spotFor = spotAt (lowestFit size (shownBy trees shape tree))

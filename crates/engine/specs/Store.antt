@@ -41,8 +41,10 @@ pub record Sound (o : Opening) (shape : Shape) (s : Store) : Type 0 where
   pub represents : Represents o s packing
 
 -- The command of this number may come: no item has the number yet, and the count of items can take one more. The commands of a stream are far fewer.
-pub record Ready (o : Opening) (shape : Shape) (number : ℕ) (s : Store) : Type 0 where
+pub record Ready (o : Opening) (left : ℕ) (shape : Shape) (number : ℕ) (s : Store) : Type 0 where
   pub sound : Sound o shape s
+  -- What is left of the stock for this packing is no more than the stock.
+  pub left-few : left ≤ o .stock
   pub room : s .counters .items < 4294967295
   pub numbered : number < numbers
   pub new : binIn (noteAt (s .notes) number) ≡ 0

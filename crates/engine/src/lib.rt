@@ -1,5 +1,6 @@
 // The engine: the placing step. It finds a bin by the trees, enters the item in the ledger, notes where it lies, and shows the bin's row of the ledger
-// in the trees, which are an index over it. Trees, ledger and notes are lent by the caller; what is small goes by value.
+// in the trees, which are an index over it. Trees, ledger and notes are lent by the caller; what is small goes by value. Of productions the step knows
+// nothing: the caller tells it what is left of the stock for this one.
 use aim::Counters;
 use ledger::BINS;
 use ledger::COLUMNS;
@@ -36,7 +37,7 @@ struct Spot {
     opened: u32,
 }
 
-// What the search has for an item: a spot, or none, as the stock is spent.
+// What the search has for an item: a spot, or none, as what is left of the stock for its production is all opened.
 enum Offer {
     Here(Spot),
     Spent,
@@ -48,6 +49,7 @@ fn find_spot(
     shape: Shape,
     opened: u32,
     opening: Opening,
+    left: u32,
     tree: usize,
     size: u32,
 ) -> Offer
@@ -55,7 +57,7 @@ fn find_spot(
     requires tree { ⌜ tree < 5 ⌝ }
     requires some { ⌜ 1 ≤ size ⌝ }
     requires fits { ⌜ size ≤ opening .capacity ⌝ }
-    ensures { λ r. ⌜ r ≡ spotFor opening shape (now (trees .entry)) opened tree size ⌝ }
+    ensures { λ r. ⌜ r ≡ spotFor opening left shape (now (trees .entry)) opened tree size ⌝ }
 {
     let capacity = opening.capacity;
     let base = STRIDE * tree;
@@ -71,8 +73,7 @@ fn find_spot(
             })
         }
         Found::Nothing => {
-            let stock = opening.stock as u32;
-            if stock <= opened {
+            if left <= opened {
                 return Offer::Spent;
             }
             let place = opened as usize;
@@ -107,17 +108,18 @@ fn place_fitting(
     shape: Shape,
     counters: Counters,
     opening: Opening,
+    left: u32,
     number: usize,
     size: u32,
 ) -> Answered
-    requires ready { ⌜ Ready opening shape number (store (now trees) (now ledger) (now notes) counters) ⌝ }
+    requires ready { ⌜ Ready opening left shape number (store (now trees) (now ledger) (now notes) counters) ⌝ }
     requires some { ⌜ 1 ≤ size ⌝ }
     requires fits { ⌜ stored opening size ≤ opening .capacity ⌝ }
-    ensures { λ r. ⌜ Done opening shape (store (now (trees .entry)) (now (ledger .entry)) (now (notes .entry)) counters) number (Shelve size) (r .answer) (store (now (trees .exit)) (now (ledger .exit)) (now (notes .exit)) (r .next)) ⌝ }
+    ensures { λ r. ⌜ Done opening left shape (store (now (trees .entry)) (now (ledger .entry)) (now (notes .entry)) counters) number (Shelve size) (r .answer) (store (now (trees .exit)) (now (ledger .exit)) (now (notes .exit)) (r .next)) ⌝ }
 {
     let stored = size + opening.trailer as u32;
     let tree = aim::tree_for(stored, opening.capacity, counters.b2);
-    let offer = find_spot(trees, shape, counters.opened, opening, tree, stored);
+    let offer = find_spot(trees, shape, counters.opened, opening, left, tree, stored);
     let Offer::Here(spot) = offer else {
         return refuse(number, ItemReason::StockSpent, counters);
     };
@@ -162,15 +164,26 @@ pub fn place(
     shape: Shape,
     counters: Counters,
     opening: Opening,
+    left: u32,
     number: usize,
     size: u32,
 ) -> Answered
-    requires { ⌜ Ready opening shape number (store (now trees) (now ledger) (now notes) counters) ⌝ }
-    ensures { λ r. ⌜ Done opening shape (store (now (trees .entry)) (now (ledger .entry)) (now (notes .entry)) counters) number (Shelve size) (r .answer) (store (now (trees .exit)) (now (ledger .exit)) (now (notes .exit)) (r .next)) ⌝ }
+    requires { ⌜ Ready opening left shape number (store (now trees) (now ledger) (now notes) counters) ⌝ }
+    ensures { λ r. ⌜ Done opening left shape (store (now (trees .entry)) (now (ledger .entry)) (now (notes .entry)) counters) number (Shelve size) (r .answer) (store (now (trees .exit)) (now (ledger .exit)) (now (notes .exit)) (r .next)) ⌝ }
 {
     let most = largest(opening);
     if limits::is_within(1, most, size) {
-        return place_fitting(trees, ledger, notes, shape, counters, opening, number, size);
+        return place_fitting(
+            trees,
+            ledger,
+            notes,
+            shape,
+            counters,
+            opening,
+            left,
+            number,
+            size,
+        );
     }
     if size == 0 {
         return refuse(number, ItemReason::SizeZero, counters);

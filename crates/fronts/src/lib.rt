@@ -1,16 +1,18 @@
 // The front of a command stream: the operand-width table, operands, and the command that stands there.
 use packing::Command;
+use packing::Production;
 use packing::StreamReason;
 use packing::Width;
 use packing::WidthRow;
 ghost use mathlib.Core.Path.{_≡_};
 ghost use Prim.Native.Nat.{_≤_};
-ghost use lib.ListN.{length};
-ghost use Rattle.packing.specs.Streams.{isOpening, widths, lookup, whole, frontOf, WholeFront};
+ghost use lib.ListN.{length, drop};
+ghost use Rattle.packing.specs.Productions.{productionOf};
+ghost use Rattle.packing.specs.Streams.{isOpening, widths, lookup, namesNone, whole, frontOf, WholeFront};
 ghost use Rattle.fronts.specs.Fronts.{tableWidth, CommandThere, commandWith, InStream, Operand, means};
 
 // "One table gives each command byte its operand width."
-const ROWS: usize = 5;
+const ROWS: usize = 6;
 
 const WIDTHS: [WidthRow; ROWS] = [
     WidthRow {
@@ -28,6 +30,10 @@ const WIDTHS: [WidthRow; ROWS] = [
     WidthRow {
         opcode: 4,
         width: 2,
+    },
+    WidthRow {
+        opcode: 5,
+        width: 1,
     },
     WidthRow {
         opcode: 0x11,
@@ -99,6 +105,28 @@ pub fn operand(s: &[u8], at: usize, width: usize) -> u32
     n
 }
 
+// The production of a number that has one: 0 or 1.
+fn production_of(number: u32) -> Production
+    ensures { λ r. ⌜ r ≡ productionOf number ⌝ }
+{
+    if number == 0 {
+        return Production::First;
+    }
+    Production::Second
+}
+
+// Whether a command that is there with its operands is 05 and names no production: its byte is above 1.
+fn names_none(opcode: u8, rest: &[u8]) -> bool
+    requires { ⌜ CommandThere opcode (now rest) ⌝ }
+    ensures { λ r. ⌜ r ≡ namesNone opcode (drop 1 (now (rest .entry))) ⌝ }
+{
+    if opcode == 5 {
+        let named = operand(rest, 1, 1);
+        return 1 < named;
+    }
+    false
+}
+
 // The command of an opcode that is in the table and is no opening, whole with its operands, and its width. (With the opcode written out, the compiler
 // makes a constant of what the table has for it.)
 fn command_of(opcode: u8, rest: &[u8]) -> WholeCommand
@@ -121,6 +149,15 @@ fn command_of(opcode: u8, rest: &[u8]) -> WholeCommand
             width,
         };
     }
+    if opcode == 5 {
+        let number = operand(rest, 1, 1);
+        let production = production_of(number);
+        let width = table_width(5);
+        return WholeCommand {
+            command: Command::Switch(production),
+            width,
+        };
+    }
     let width = table_width(3);
     WholeCommand {
         command: Command::Count,
@@ -128,7 +165,7 @@ fn command_of(opcode: u8, rest: &[u8]) -> WholeCommand
     }
 }
 
-// Reads the command at the front of a stream. At one command the order is 2, 4, 3.
+// Reads the command at the front of a stream. At one command the order is 2, 4, 3, 18.
 pub fn read_front(rest: &[u8]) -> Front
     requires { ⌜ 1 ≤ length (now rest) ⌝ }
     ensures { λ r. ⌜ means r ≡ frontOf (now (rest .entry)) ⌝ }
@@ -144,6 +181,10 @@ pub fn read_front(rest: &[u8]) -> Front
     }
     if operands < width {
         return Front::Faulty(StreamReason::CutShort);
+    }
+    let none = names_none(opcode, rest);
+    if none {
+        return Front::Faulty(StreamReason::NoProduction);
     }
     let whole = command_of(opcode, rest);
     let command = whole.command;

@@ -9,14 +9,14 @@ use native.Mathlib.Omega.{arith}
 use borrow.Author.Tests.{eq-eqb, ne-eqb}
 use lib.Dec.{eqb}
 use lib.ListN.{length}
-use Rattle.packing.specs.Prelude.{any, greatest, Opening, Command, Entry, Tally}
+use Rattle.packing.specs.Prelude.{any, greatest, Opening, Production, Command, Entry, Tally}
 use Rattle.packing.specs.Bins.{Item, Bin, Packing, opened, kind, stored}
 use Rattle.packing.specs.Placing.{target, classOf, takes, binFor, placed}
 use Rattle.packing.specs.Run.{item, Step, entriesOf, placements}
 use Rattle.packing.specs.Counting.{stockPlaces, walk}
 use Rattle.packing.specs.Compared.{numberOpened}
 use Rattle.packing.proofs.Putting.{fresh, put-each}
-use Rattle.packing.proofs.Moves.{places, withdraws, counts, refuses, Trace, ends, moves, trace}
+use Rattle.packing.proofs.Moves.{places, withdraws, counts, switches, refuses, Trace, ends, moves, trace}
 use Rattle.packing.proofs.Reached.{first-few, opens-class, opened-placed, opened-without}
 use Rattle.packing.proofs.Numbers.{trace-opened, trace-entries}
 
@@ -35,23 +35,24 @@ answered-within n (e ∷ es) some h = elim (ℕ-discrete (e .bin) n) [
 
 module _ (o : Opening) where
   -- Each bin is opened for an item, which is answered its number.
-  opened-answered : (bin : ℕ) {n : ℕ} {p q : Packing} {ts : List Step} → Trace o n p ts q → opened p < bin → bin ≤ opened q → Answered bin (entriesOf o ts)
+  opened-answered : (bin : ℕ) {n e : ℕ} {p q : Packing} {ts : List Step} → Trace o n p ts e q → opened p < bin → bin ≤ opened q → Answered bin (entriesOf o ts)
   unfolding any flatten
-  opened-answered bin ends l m = absurd (omega arith)
-  opened-answered bin (moves {n = n} {p = p} (places {s = s} h) r) l m = elim (ℕ-discrete (binFor o p (item n (stored o s))) bin) [
-    | yes q ↦ rw (eq-eqb (binFor o p (item n (stored o s))) bin q)
+  opened-answered bin (ends z) l m = absurd (omega arith)
+  opened-answered bin (moves {k = k} {p = p} f b (places {s = s} h) r) l m = elim (ℕ-discrete (binFor o p (item k (stored o s))) bin) [
+    | yes q ↦ rw (eq-eqb (binFor o p (item k (stored o s))) bin q)
     | no q ↦
-        let further = opened-answered bin r (omega (arith, q, opened-placed o p (item n (stored o s)), first-few (takes o p (item n (stored o s))) (p .bins))) m in
-        rw (ne-eqb (binFor o p (item n (stored o s))) bin q) further
+        let further = opened-answered bin r (omega (arith, q, opened-placed o p (item k (stored o s)), first-few (takes o p (item k (stored o s))) (p .bins))) m in
+        rw (ne-eqb (binFor o p (item k (stored o s))) bin q) further
   ]
-  opened-answered bin (moves {p = p} (withdraws {named = named} e) r) l m = opened-answered bin r (omega (arith, opened-without o named p)) m
-  opened-answered bin (moves counts r) l m = opened-answered bin r l m
-  opened-answered bin (moves (refuses z) r) l m = opened-answered bin r l m
+  opened-answered bin (moves {p = p} f b (withdraws {named = named} e) r) l m = opened-answered bin r (omega (arith, opened-without o named p)) m
+  opened-answered bin (moves f b counts r) l m = opened-answered bin r l m
+  opened-answered bin (moves f b switches r) l m = opened-answered bin r l m
+  opened-answered bin (moves f b (refuses z) r) l m = opened-answered bin r l m
 
-  pub numbers-answered : (cs : List Command) (n : ℕ) → Answered n (placements o cs) ↔ ((1 ≤ n) × (n ≤ numberOpened o cs))
-  numbers-answered cs n = (
-    answered-within n (placements o cs) (trace-entries o (trace o cs)),
-    λ w. opened-answered n (trace o cs) (omega (arith, w)) (omega (arith, w, trace-opened o (trace o cs))),
+  pub numbers-answered : (q : Production) (cs : List Command) (n : ℕ) → Answered n (placements o q cs) ↔ ((1 ≤ n) × (n ≤ numberOpened o q cs))
+  numbers-answered q cs n = (
+    answered-within n (placements o q cs) (trace-entries o (trace o q cs)),
+    λ w. opened-answered n (trace o q cs) (omega (arith, w)) (omega (arith, w, trace-opened o (trace o q cs))),
   )
 
 -- Every bin has a class, which is not 0.

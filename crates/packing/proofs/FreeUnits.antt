@@ -1,12 +1,12 @@
 -- The free units beside an answer are those of its bin, until an item goes there or leaves it: what is still shelved and was answered its number tells
 -- what the bin holds.
 use Prim.Native.Nat.{ℕ, zero, suc, _+_, _≤_, _<_}
-use mathlib.Core.Path.{_≡_, refl, sym, ap, _∙_}
+use mathlib.Core.Path.{_≡_, refl, sym, ap, subst, _∙_}
 use mathlib.Core.List.{List, [], _∷_, _++_, map}
 use native.Mathlib.Omega.{arith}
 use borrow.Author.Tests.{leb-true, le-leb}
 use lib.ListN.{length, take, getD}
-use Rattle.packing.specs.Prelude.{total, Opening, Command, Outcome}
+use Rattle.packing.specs.Prelude.{total, Opening, Production, Command, Outcome}
 use Rattle.packing.specs.Refusals.{binsNamed, freeUnits}
 use Rattle.packing.specs.Bins.{Item, Bin, Packing, opened, load, itemsOf, freeOn, stored}
 use Rattle.packing.specs.Placing.{permitted, target, hasSpace, binFor}
@@ -14,7 +14,7 @@ use Rattle.packing.specs.Withdrawing.{binHolding}
 use Rattle.packing.specs.Run.{item, packing}
 use Rattle.packing.specs.Claims.{FreeOf, FreeUnits}
 use Rattle.packing.proofs.Tests.{clash, both-true}
-use Rattle.packing.proofs.Moves.{Move, places, withdraws, counts, refuses}
+use Rattle.packing.proofs.Moves.{Move, places, withdraws, counts, switches, refuses}
 use Rattle.packing.proofs.Reached.{reached}
 use Rattle.packing.proofs.Numbers.{opened-is}
 use Rattle.packing.proofs.Running.{move-at}
@@ -53,10 +53,11 @@ module _ (o : Opening) where
     from-one : 1 ≤ bin
     free-is : free ≡ freeOn o bin q
 
-  left-by : {p q : Packing} {n : ℕ} {c : Command} {a : Outcome} (bin : ℕ) → Move o p n c a q → binsNamed a ≡ bin ∷ [] → Left q bin (freeUnits a)
-  left-by {p = p} {n = n} bin (places {s = s} h) e = let here : binFor o p (item n (stored o s)) ≡ bin = cc in record { from-one = omega (arith, here); free-is = cc }
+  left-by : {left n : ℕ} {p q : Packing} {c : Command} {a : Outcome} (bin : ℕ) → Move o left p n c a q → binsNamed a ≡ bin ∷ [] → Left q bin (freeUnits a)
+  left-by {n = n} {p = p} bin (places {s = s} h) e = let here : binFor o p (item n (stored o s)) ≡ bin = cc in record { from-one = omega (arith, here); free-is = cc }
   left-by {p = p} bin (withdraws {named = named} h) e = let here : binHolding named p ≡ bin = cc in record { from-one = omega (arith, here); free-is = cc }
   left-by bin counts e = clash (cc)
+  left-by bin switches e = clash (cc)
   left-by bin (refuses z) e = clash (cc)
 
   -- What is free on a bin, by what stands there.
@@ -78,13 +79,12 @@ module _ (o : Opening) where
         );
       }
 
-  module _ (cs : List Command) where
-    pub free-units : FreeUnits o cs
-    free-units j i bin a later e names few same =
-        let left = left-by bin (move-at o j cs a later e .moved) names in
-        let sizes : map (λ x. x .size) (itemsOf bin (packing o (take i cs))) ≡ map (λ x. x .size) (itemsOf bin (packing o (take (suc j) cs))) =
-        sizes-held o (take i cs) bin ∙ rw same (sym (sizes-held o (take (suc j) cs) bin)) in
-        free-of (packing o (take i cs)) bin (freeUnits a)
-        (items-most (o .capacity) bin (packing o (take i cs)) (λ b m. reached o (take i cs) .bins-sound b m .not-overfull))
-        (left .free-is ∙ rw (← sizes))
-        (stands bin (packing o (take i cs)) (left .from-one) (omega (arith, opened-is o (take i cs))))
+  module _ (q : Production) (cs : List Command) where
+    pub free-units : FreeUnits o q cs
+    free-units j i bin a later own e names few same =
+        let p = packing o q (take i cs) in
+        let left : Left (packing o q (take (suc j) cs)) bin (freeUnits a) = subst (λ r. Left (packing o r (take (suc j) cs)) bin (freeUnits a)) own (left-by bin (move-at o j cs a later e .moved) names) in
+        let sizes : map (λ x. x .size) (itemsOf bin p) ≡ map (λ x. x .size) (itemsOf bin (packing o q (take (suc j) cs))) =
+        sizes-held o q (take i cs) bin ∙ rw same (sym (sizes-held o q (take (suc j) cs) bin)) in
+        free-of p bin (freeUnits a) (items-most (o .capacity) bin p (λ b m. reached o q (take i cs) .bins-sound b m .not-overfull)) (left .free-is ∙ rw (← sizes))
+        (stands bin p (left .from-one) (omega (arith, opened-is o q (take i cs))))

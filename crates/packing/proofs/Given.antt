@@ -6,19 +6,22 @@ use mathlib.Core.List.{List, [], _∷_, map, zipWith}
 use native.Mathlib.Omega.{arith}
 use borrow.Author.Tests.{lt-ltb, le-ltb}
 use lib.Dec.{eqb, ltb}
-use Rattle.packing.specs.Prelude.{if_then_else_, Opening, Command, Shelve, Count, Withdraw, Outcome, Placed, Counted, Withdrawn, Refused}
+use Rattle.packing.specs.Prelude.{if_then_else_, Opening, Production, First, Second, Command, Shelve, Count, Withdraw, Switch, Outcome, Placed, Counted, Withdrawn, Switched, Refused}
 use Rattle.packing.specs.Prelude.{ItemReason, SizeZero, AboveCapacity, StockSpent, NotShelved}
-use Rattle.packing.specs.Prelude.{StreamReason, NoOpening, UnknownOpcode, CutShort, SecondOpening, OutsideLimits, TooManyCommands, TooFewWords, StreamResult}
+use Rattle.packing.specs.Prelude.{StreamReason, NoOpening, UnknownOpcode, CutShort, SecondOpening, OutsideLimits, TooManyCommands, TooFewWords, NoProduction, StreamResult}
 use Rattle.packing.specs.Prelude.{PlanReason, CapacityOutside, TooLong, SizeOutside, BinOutside, Overfull, OtherItems, PlanResult}
 use Rattle.packing.specs.Refusals.{streamNumber, itemNumber, planNumber, word, freeUnits, itemReason, outcomeOf}
-use Rattle.packing.specs.Bins.{Packing, empty, freeOn, stored}
+use Rattle.packing.specs.Productions.{productionNumber, productionOf, other}
+use Rattle.packing.specs.Bins.{Packing, freeOn, stored}
 use Rattle.packing.specs.Placing.{binFor, placed}
 use Rattle.packing.specs.Withdrawing.{holdsNamed, binHolding, without}
-use Rattle.packing.specs.Run.{item, answerTo, next, runFrom}
+use Rattle.packing.specs.Shelves.{Shelf, emptyShelf, of, own, stockLeft}
+use Rattle.packing.specs.Run.{item, answerTo, next, answerOn, nextShelf, runFrom}
 use Rattle.packing.specs.Claims.{StreamGivesBack, PlanGivesBack, WordsGiveBack}
 use Rattle.packing.proofs.Limits.{in-limits}
 use Rattle.packing.proofs.Tests.{clash}
-use Rattle.packing.proofs.Moves.{Move, places, withdraws, counts, refuses, move}
+use Rattle.packing.proofs.Productions.{Whose, its-own, the-others, whose, own-after, other-after}
+use Rattle.packing.proofs.Moves.{Move, places, withdraws, counts, switches, refuses, an-item, a-withdrawal, move}
 use Rattle.packing.proofs.Reached.{first-any, in-stock, Reached, reached-empty, reached-move}
 
 -- The refusal of a number, and that it is the one that has it.
@@ -30,7 +33,8 @@ streamReason n =
     if eqb n 4 then SecondOpening else
     if eqb n 5 then OutsideLimits else
     if eqb n 6 then TooManyCommands else
-    TooFewWords
+    if eqb n 7 then TooFewWords else
+    NoProduction
 
 stream-reason : (reason : StreamReason) → streamReason (streamNumber reason) ≡ reason
 unfolding streamReason
@@ -41,6 +45,7 @@ stream-reason SecondOpening = refl
 stream-reason OutsideLimits = refl
 stream-reason TooManyCommands = refl
 stream-reason TooFewWords = refl
+stream-reason NoProduction = refl
 
 planReason : (number : ℕ) → PlanReason
 planReason n =
@@ -94,7 +99,7 @@ item-number-few AboveCapacity = omega arith
 item-number-few StockSpent = omega arith
 item-number-few NotShelved = omega arith
 
-pub stream-number-few : (reason : StreamReason) → streamNumber reason ≤ 7
+pub stream-number-few : (reason : StreamReason) → streamNumber reason ≤ 18
 stream-number-few NoOpening = omega arith
 stream-number-few UnknownOpcode = omega arith
 stream-number-few CutShort = omega arith
@@ -102,6 +107,7 @@ stream-number-few SecondOpening = omega arith
 stream-number-few OutsideLimits = omega arith
 stream-number-few TooManyCommands = omega arith
 stream-number-few TooFewWords = omega arith
+stream-number-few NoProduction = omega arith
 
 -- So the word of a refusal gives it back.
 refused-back : (other : Outcome) (reason : ItemReason)
@@ -110,46 +116,72 @@ refused-back other reason =
     let k : 32_768 + itemNumber reason - 32_768 ≡ itemNumber reason = omega arith in
     rw (le-ltb (32_768 + itemNumber reason) 32_768 (omega arith), k, item-reason)
 
+-- The number of a production gives it back.
+production-back : (r : Production) → productionOf (productionNumber r) ≡ r
+production-back First = refl
+production-back Second = refl
+
 -- What the answer to a command can be, in a packing that commands can reach: a bin within the stock with free units within the capacity, a count within
--- the stock, or a refusal.
-module _ (o : Opening) (p : Packing) (n : ℕ) (h : Reached o p) where
+-- the stock, a production, or a refusal.
+module _ (o : Opening) where
   pub data Told : Command → Outcome → Type 0 where
     placed-in : {s bin free : ℕ} → bin ≤ o .stock → free ≤ o .capacity → Told (Shelve s) (Placed bin free)
     counted : {count : ℕ} → count ≤ o .stock → Told Count (Counted count)
     withdrawn-from : {named bin free : ℕ} → bin ≤ o .stock → free ≤ o .capacity → Told (Withdraw named) (Withdrawn bin free)
+    switched-to : {r : Production} → Told (Switch r) (Switched r)
     refused-item : {s : ℕ} {reason : ItemReason} → Told (Shelve s) (Refused reason)
     refused-out : {named : ℕ} {reason : ItemReason} → Told (Withdraw named) (Refused reason)
 
-  pub told-to : (c : Command) → Told c (answerTo o p n c)
-  told-to c = go c (answerTo o p n c) (next o p n c) (move o p n c)
+  told-by : {left n : ℕ} {p q : Packing} {c : Command} {a : Outcome} → Move o left p n c a q → left ≤ o .stock → Reached o p → Told c a
+  told-by {left = left} {n = n} {p = p} (places {s = s} i) few h =
+      let bin = binFor o p (item n (stored o s)) in
+      placed-in {bin = bin} {free = freeOn o bin (placed o p (item n (stored o s)))}
+      (omega (arith, in-stock o p (item n (stored o s)) left (o .stock) (i .not-spent) few (h .stock-lasts))) (omega arith)
+  told-by counts few h = counted (h .stock-lasts)
+  told-by {p = p} (withdraws {named = named} e) few h =
+      let bin = binHolding named p in
+      withdrawn-from {bin = bin} {free = freeOn o bin (without named p)} (omega (arith, first-any (holdsNamed named) (p .bins) e, h .stock-lasts)) (omega arith)
+  told-by switches few h = switched-to
+  told-by (refuses an-item) few h = refused-item
+  told-by (refuses a-withdrawal) few h = refused-out
+
+  -- On a shelf where both packings are such.
+  abbrev pub BothReached : Shelf → Type 0
+  BothReached s = (q : Production) → Reached o (of q s)
+
+  pub told-to : (s : Shelf) (n : ℕ) → BothReached s → (c : Command) → Told c (answerOn o s n c)
+  told-to s n h c = told-by (move o (stockLeft o s) (own s) n c) (omega arith) (h (s .current))
+
+  both-next : (s : Shelf) (n : ℕ) (c : Command) → BothReached s → BothReached (nextShelf o s n c)
+  both-next s n c h q = go (whose (s .current) q)
     where
-      go : (c : Command) (a : Outcome) (q : Packing) → Move o p n c a q → Told c a
-      go c a q (places {s = s} i) =
-          let bin = binFor o p (item n (stored o s)) in
-          placed-in {bin = bin} {free = freeOn o bin (placed o p (item n (stored o s)))} (omega (arith, in-stock o p (item n (stored o s)) (i .not-spent) (h .stock-lasts))) (omega arith)
-      go c a q counts = counted (h .stock-lasts)
-      go c a q (withdraws {named = named} e) =
-          let bin = binHolding named p in
-          withdrawn-from {bin = bin} {free = freeOn o bin (without named p)} (omega (arith, first-any (holdsNamed named) (p .bins) e, h .stock-lasts)) (omega arith)
-      go (Shelve s) a q (refuses z) = refused-item
-      go Count a q (refuses z) = absurd (z refl)
-      go (Withdraw named) a q (refuses z) = refused-out
+      after : Reached o (next o (stockLeft o s) (own s) n c)
+      after = reached-move o (move o (stockLeft o s) (own s) n c) (omega arith) (h (s .current))
+
+      go : {q : Production} → Whose (s .current) q → Reached o (of q (nextShelf o s n c))
+      go its-own = rw (own-after o s n c) after
+      go the-others = rw (other-after o s n c) (h (other (s .current)))
 
   -- A bin's number is below 32,768, so the word tells it from a refusal.
   pub word-gives-back : o .stock ≤ 512 → (c : Command) (a : Outcome) → Told c a → outcomeOf c (word a) (freeUnits a) ≡ a
   word-gives-back most c a (placed-in {bin = bin} l m) = rw (lt-ltb bin 32_768 (omega arith))
   word-gives-back most c a (counted l) = refl
   word-gives-back most c a (withdrawn-from {bin = bin} l m) = rw (lt-ltb bin 32_768 (omega arith))
+  word-gives-back most c a (switched-to {r = r}) = ap Switched (production-back r)
   word-gives-back most c a (refused-item {reason = reason}) = refused-back (Placed (32_768 + itemNumber reason) 0) reason
   word-gives-back most c a (refused-out {reason = reason}) = refused-back (Withdrawn (32_768 + itemNumber reason) 0) reason
 
-words-from : (o : Opening) → o .stock ≤ 512 → (cs : List Command) (p : Packing) (n : ℕ) → Reached o p
-    → zipWith (λ given free. given free) (zipWith outcomeOf cs (map word (map (λ t. t .outcome) (runFrom o p n cs)))) (map freeUnits (map (λ t. t .outcome) (runFrom o p n cs)))
-    ≡ map (λ t. t .outcome) (runFrom o p n cs)
-unfolding zipWith runFrom
-words-from o stock [] p n h = refl
-words-from o stock (c ∷ cs) p n h =
-    rw (word-gives-back o p n h stock c (answerTo o p n c) (told-to o p n h c), words-from o stock cs (next o p n c) (suc n) (reached-move o (move o p n c) h))
+  words-from : o .stock ≤ 512 → (cs : List Command) (s : Shelf) (n : ℕ) → BothReached s
+      → zipWith (λ given free. given free) (zipWith outcomeOf cs (map word (map (λ t. t .outcome) (runFrom o s n cs)))) (map freeUnits (map (λ t. t .outcome) (runFrom o s n cs)))
+      ≡ map (λ t. t .outcome) (runFrom o s n cs)
+  unfolding zipWith runFrom
+  words-from stock [] s n h = refl
+  words-from stock (c ∷ cs) s n h =
+      rw (word-gives-back stock c (answerOn o s n c) (told-to s n h c), words-from stock cs (nextShelf o s n c) (suc n) (both-next s n c h))
+
+  none-yet : BothReached emptyShelf
+  none-yet First = reached-empty o
+  none-yet Second = reached-empty o
 
 pub words-give-back : (o : Opening) (cs : List Command) → WordsGiveBack o cs
-words-give-back o cs good = words-from o (in-limits o good .stock .1) cs empty 1 (reached-empty o)
+words-give-back o cs good = words-from o (in-limits o good .stock .1) cs emptyShelf 1 (none-yet o)

@@ -7,15 +7,15 @@ use mathlib.Core.List.{List, [], _∷_, _++_, map, reverse, reverseAux, map-appe
 use native.Mathlib.Omega.{arith}
 use lib.Dec.{eqb, eqb·zero-suc, eqb·suc-zero, eqb·suc-suc}
 use lib.ListN.{length, getD}
-use Rattle.packing.specs.Prelude.{if_then_else_, total, keep, Opening, Command, Outcome}
+use Rattle.packing.specs.Prelude.{if_then_else_, total, keep, Opening, Production, Command, Outcome}
 use Rattle.packing.specs.Bins.{Item, Bin, Packing, empty, load, itemsOf, add, stored}
 use Rattle.packing.specs.Placing.{firstFit, put, target, classOf, takes, binFor, placed}
 use Rattle.packing.specs.Withdrawing.{isNamed, emptiedOf, without}
-use Rattle.packing.specs.Run.{item, Shelved, entryOf, shelving, run, packing, stillShelved}
+use Rattle.packing.specs.Run.{item, Shelved, entryOf, shelving, packing, stillShelved}
 use Rattle.packing.specs.Compared.{shelfPlan, sizesIn}
 use Rattle.packing.proofs.Putting.{fresh}
 use Rattle.packing.proofs.Keeping.{keep-append, keep-reversed, keep-map, keep-swap}
-use Rattle.packing.proofs.Moves.{Move, places, withdraws, counts, refuses, trace, carried}
+use Rattle.packing.proofs.Moves.{Move, places, withdraws, counts, switches, refuses, trace, carried}
 use Rattle.packing.proofs.Reached.{reached}
 
 -- The items of the bin with so many before it.
@@ -90,17 +90,18 @@ held-less n named on =
     ∙ sym (keep-reversed others (map (λ s. s .item) (keep here on)) [])
 
 module _ (o : Opening) where
-  holds-move : (n : ℕ) (p q : Packing) (c : Command) (a : Outcome) (on : List Shelved) → Move o p n c a q → Holds p on → Holds q (shelving o n c a on)
-  holds-move n p q c a on (places {s = s} d) h k =
+  holds-move : (left n : ℕ) (p q : Packing) (c : Command) (a : Outcome) (on : List Shelved) → Move o left p n c a q → Holds p on → Holds q (shelving o n c a on)
+  holds-move left n p q c a on (places {s = s} d) h k =
       placed-items o k p (item n (stored o s)) ∙ ap (grown (eqb (binFor o p (item n (stored o s))) k) (item n (stored o s))) (h k) ∙ sym (held-more k (binFor o p (item n (stored o s))) (item n (stored o s)) on)
-  holds-move n p q c a on (withdraws {named = named} e) h k =
+  holds-move left n p q c a on (withdraws {named = named} e) h k =
       without-items k named p ∙ ap (keep (λ i. not (isNamed named i))) (h k) ∙ sym (held-less k named on)
-  holds-move n p q c a on counts h k = h k
-  holds-move n p q c a on (refuses z) h k = h k
+  holds-move left n p q c a on counts h k = h k
+  holds-move left n p q c a on switches h k = h k
+  holds-move left n p q c a on (refuses z) h k = h k
 
-  pub holds : (cs : List Command) → Holds (packing o cs) (stillShelved o cs)
+  pub holds : (q : Production) (cs : List Command) → Holds (packing o q cs) (stillShelved o q cs)
   unfolding keep
-  holds cs = carried o (λ n. Holds) holds-move (trace o cs) (length (run o cs) + 1) refl [] none
+  holds q cs = carried o (λ n. Holds) (λ n k p on l h. h) holds-move (trace o q cs) [] none
     where
       none : (n : ℕ) → itemsOf n empty ≡ heldBy n []
       none zero = refl
@@ -127,18 +128,18 @@ unfolding total
 total-reversed [] ys = omega arith
 total-reversed (x ∷ xs) ys = omega (arith, total-reversed xs (x ∷ ys))
 
-module _ (o : Opening) (cs : List Command) (n : ℕ) where
+module _ (o : Opening) (q : Production) (cs : List Command) (n : ℕ) where
   -- The sizes in bin n are those of the shelf's own plan.
-  pub sizes-held : map (λ i. i .size) (itemsOf n (packing o cs)) ≡ reverse (sizesIn n (shelfPlan o cs))
+  pub sizes-held : map (λ i. i .size) (itemsOf n (packing o q cs)) ≡ reverse (sizesIn n (shelfPlan o q cs))
   sizes-held =
-      let here : List Shelved = keep (λ s. eqb (s .bin) n) (stillShelved o cs) in
-      ap (map (λ i. i .size)) (holds o cs n) ∙ map-reversed (λ i. i .size) (map (λ s. s .item) here) []
+      let here : List Shelved = keep (λ s. eqb (s .bin) n) (stillShelved o q cs) in
+      ap (map (λ i. i .size)) (holds o q cs n) ∙ map-reversed (λ i. i .size) (map (λ s. s .item) here) []
       ∙ ap reverse (map-map (λ i. i .size) (λ s. s .item) here ∙ sym (map-map (λ e. e .size) entryOf here)
-      ∙ ap (map (λ e. e .size)) (sym (keep-map entryOf (λ s. eqb (s .bin) n) (λ e. eqb (e .bin) n) (stillShelved o cs) (λ s m. refl))))
+      ∙ ap (map (λ e. e .size)) (sym (keep-map entryOf (λ s. eqb (s .bin) n) (λ e. eqb (e .bin) n) (stillShelved o q cs) (λ s m. refl))))
 
   -- So what is answered n is no larger than the capacity.
-  pub shown-few : total (sizesIn n (shelfPlan o cs)) ≤ o .capacity
+  pub shown-few : total (sizesIn n (shelfPlan o q cs)) ≤ o .capacity
   unfolding total
   shown-few =
-      let few = items-most (o .capacity) n (packing o cs) (λ b m. reached o cs .bins-sound b m .not-overfull) in
-      omega (arith, few, ap total sizes-held, total-reversed (sizesIn n (shelfPlan o cs)) [])
+      let few = items-most (o .capacity) n (packing o q cs) (λ b m. reached o q cs .bins-sound b m .not-overfull) in
+      omega (arith, few, ap total sizes-held, total-reversed (sizesIn n (shelfPlan o q cs)) [])

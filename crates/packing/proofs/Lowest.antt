@@ -11,7 +11,7 @@ use Rattle.packing.specs.Placing.{firstFit, takes, binFor}
 use Rattle.packing.specs.Run.{item}
 use Rattle.packing.specs.Claims.{Lowest, LowestPermitted}
 use Rattle.packing.proofs.Tests.{clash, each-cons}
-use Rattle.packing.proofs.Moves.{Move, places, withdraws, counts, refuses}
+use Rattle.packing.proofs.Moves.{Move, places, withdraws, counts, switches, refuses}
 use Rattle.packing.proofs.Reached.{first-few}
 use Rattle.packing.proofs.Running.{move-at}
 
@@ -35,9 +35,9 @@ stops-there test (a ∷ bs) b later e = go (test a) refl e (stops-there test bs 
     go true q e r = let same : a ≡ b = cc in subst (λ x. test x ≡ true) same q
     go false q e r = r e
 
-lowest-by : {o : Opening} {p q : Packing} {n : ℕ} {c : Command} {a : Outcome} (size bin free : ℕ) → Move o p n c a q → c ≡ Shelve size → a ≡ Placed bin free
+lowest-by : {o : Opening} {left n : ℕ} {p q : Packing} {c : Command} {a : Outcome} (size bin free : ℕ) → Move o left p n c a q → c ≡ Shelve size → a ≡ Placed bin free
     → Lowest o p (item n (stored o size)) bin
-lowest-by {o = o} {p = p} {n = n} size bin free (places {s = s} h) e f =
+lowest-by {o = o} {n = n} {p = p} size bin free (places {s = s} h) e f =
     let same : s ≡ size = cc in
     let here : binFor o p (item n (stored o s)) ≡ bin = cc in
     rw (← here, ← same)
@@ -50,6 +50,7 @@ lowest-by {o = o} {p = p} {n = n} size bin free (places {s = s} h) e f =
     })
 lowest-by size bin free (withdraws h) e f = clash (cc)
 lowest-by size bin free counts e f = clash (cc)
+lowest-by size bin free switches e f = clash (cc)
 lowest-by size bin free (refuses z) e f = clash (cc)
 
 pub lowest-permitted : (o : Opening) (cs : List Command) → LowestPermitted o cs

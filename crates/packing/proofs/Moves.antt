@@ -1,83 +1,110 @@
--- What a command may do to a packing, and the trace of a run: every theorem about a run goes by its trace.
-use Prim.Native.Nat.{ℕ, suc, _+_}
-use mathlib.Core.Path.{_≡_, refl, subst}
+-- What a command may do to the packing of its production, and the trace of a production in a run: every theorem about a production goes by its trace.
+use Prim.Native.Nat.{ℕ, suc, _+_, _≤_}
+use mathlib.Core.Path.{_≡_, refl}
 use mathlib.Core.Bool.{Bool, true, false, not}
 use mathlib.Core.List.{List, [], _∷_}
 use native.Mathlib.Omega.{arith}
 use lib.ListN.{length}
-use Rattle.packing.specs.Prelude.{if_then_else_, any, Opening, Command, Shelve, Count, Withdraw, Outcome, Placed, Counted, Withdrawn, Refused, ItemReason, NotShelved}
+use Rattle.packing.specs.Prelude.{if_then_else_, any, Opening, Production, First, Second, Command, Shelve, Count, Withdraw, Switch}
+use Rattle.packing.specs.Prelude.{Outcome, Placed, Counted, Withdrawn, Switched, Refused, ItemReason, NotShelved}
 use Rattle.packing.specs.Refusals.{isRefused}
 use Rattle.packing.specs.Bins.{Item, Packing, empty, opened, freeOn, stored}
 use Rattle.packing.specs.Placing.{Decision, binFor, decision, placed}
 use Rattle.packing.specs.Withdrawing.{holdsNamed, binHolding, without, withdrawal}
-use Rattle.packing.specs.Run.{item, told, Step, Shelved, shelving, shelvedBy, answerTo, next, runFrom, packingFrom, run, packing}
-use Rattle.packing.proofs.Tests.{clash}
+use Rattle.packing.specs.Shelves.{Shelf, emptyShelf, of, own, stockLeft, belonging}
+use Rattle.packing.specs.Run.{item, told, Step, Shelved, shelving, shelvedBy, answerTo, next, answerOn, nextShelf, stepsOf, runFrom, shelfFrom, steps, packing}
+use Rattle.packing.proofs.Productions.{Whose, its-own, the-others, whose, steps-own, steps-other, own-after, other-after}
 use Rattle.packing.proofs.Decided.{IsPlaced, Decided, goes-in, is-zero, is-above, is-spent, decided}
 
--- No count is refused.
-shelve-apart : {s : ℕ} → Shelve s ≡ Count → ⊥
-shelve-apart e = clash (cc)
-
-withdraw-apart : {named : ℕ} → Withdraw named ≡ Count → ⊥
-withdraw-apart e = clash (cc)
+-- No other command is refused.
+pub data Refusable : Command → Type 0 where
+  an-item : {s : ℕ} → Refusable (Shelve s)
+  a-withdrawal : {named : ℕ} → Refusable (Withdraw named)
 
 module _ (o : Opening) where
-  -- From the packing p to the next by a command of number n that comes to this: it places its item; it takes one out; or all stays.
-  pub data Move (p : Packing) (n : ℕ) : Command → Outcome → Packing → Type 0 where
-    places : {s : ℕ} → IsPlaced o p (item n (stored o s)) s
-        → Move p n (Shelve s) (Placed (binFor o p (item n (stored o s))) (freeOn o (binFor o p (item n (stored o s))) (placed o p (item n (stored o s))))) (placed o p (item n (stored o s)))
+  -- From the packing p, for which so much of the stock is left, to the next by a command of number n that comes to this: it places its item; it takes one
+  -- out; or all stays.
+  pub data Move (left : ℕ) (p : Packing) (n : ℕ) : Command → Outcome → Packing → Type 0 where
+    places : {s : ℕ} → IsPlaced o p (item n (stored o s)) left s
+        → Move left p n (Shelve s) (Placed (binFor o p (item n (stored o s))) (freeOn o (binFor o p (item n (stored o s))) (placed o p (item n (stored o s))))) (placed o p (item n (stored o s)))
     withdraws : {named : ℕ} → any (holdsNamed named) (p .bins) ≡ true
-        → Move p n (Withdraw named) (Withdrawn (binHolding named p) (freeOn o (binHolding named p) (without named p))) (without named p)
-    counts : Move p n Count (Counted (opened p)) p
-    refuses : {c : Command} {reason : ItemReason} → (c ≡ Count → ⊥) → Move p n c (Refused reason) p
+        → Move left p n (Withdraw named) (Withdrawn (binHolding named p) (freeOn o (binHolding named p) (without named p))) (without named p)
+    counts : Move left p n Count (Counted (opened p)) p
+    switches : {r : Production} → Move left p n (Switch r) (Switched r) p
+    refuses : {c : Command} {reason : ItemReason} → Refusable c → Move left p n c (Refused reason) p
 
-  module _ (p : Packing) (n : ℕ) where
-    move-shelve : (s : ℕ) → Move p n (Shelve s) (answerTo o p n (Shelve s)) (next o p n (Shelve s))
-    move-shelve s = go (decision o p i s) (decided o p i s)
+  module _ (left : ℕ) (p : Packing) (n : ℕ) where
+    move-shelve : (s : ℕ) → Move left p n (Shelve s) (answerTo o left p n (Shelve s)) (next o left p n (Shelve s))
+    move-shelve s = go (decision o p i left s) (decided o p i left s)
       where
         i : Item
         i = item n (stored o s)
 
-        go : (d : Decision) → Decided o p i s d → Move p n (Shelve s) (told o (placed o p i) d) (if isRefused (told o (placed o p i) d) then p else placed o p i)
+        go : (d : Decision) → Decided o p i left s d
+            → Move left p n (Shelve s) (told o (placed o p i) d) (if isRefused (told o (placed o p i) d) then p else placed o p i)
         go d (goes-in h) = places h
-        go d (is-zero e) = refuses shelve-apart
-        go d (is-above l m) = refuses shelve-apart
-        go d (is-spent l m z) = refuses shelve-apart
+        go d (is-zero e) = refuses an-item
+        go d (is-above l m) = refuses an-item
+        go d (is-spent l m z) = refuses an-item
 
-    move-withdraw : (named : ℕ) → Move p n (Withdraw named) (answerTo o p n (Withdraw named)) (next o p n (Withdraw named))
+    move-withdraw : (named : ℕ) → Move left p n (Withdraw named) (answerTo o left p n (Withdraw named)) (next o left p n (Withdraw named))
     unfolding withdrawal
     move-withdraw named = go (any (holdsNamed named) (p .bins)) refl
       where
         out : Bool → Outcome
         out t = if not t then Refused NotShelved else Withdrawn (binHolding named p) (freeOn o (binHolding named p) (without named p))
 
-        go : (t : Bool) → any (holdsNamed named) (p .bins) ≡ t → Move p n (Withdraw named) (out t) (if isRefused (out t) then p else without named p)
+        go : (t : Bool) → any (holdsNamed named) (p .bins) ≡ t → Move left p n (Withdraw named) (out t) (if isRefused (out t) then p else without named p)
         go true e = withdraws e
-        go false e = refuses withdraw-apart
+        go false e = refuses a-withdrawal
 
-    pub move : (c : Command) → Move p n c (answerTo o p n c) (next o p n c)
+    pub move : (c : Command) → Move left p n c (answerTo o left p n c) (next o left p n c)
     move (Shelve s) = move-shelve s
     move Count = counts
     move (Withdraw named) = move-withdraw named
+    move (Switch r) = switches
 
-  -- From one packing to another by the moves of these steps, numbered from n on.
-  pub data Trace : ℕ → Packing → List Step → Packing → Type 0 where
-    ends : {n : ℕ} {p : Packing} → Trace n p [] p
-    moves : {n : ℕ} {p p′ q : Packing} {c : Command} {a : Outcome} {ts : List Step} → Move p n c a p′ → Trace (suc n) p′ ts q
-        → Trace n p (record { number = n; command = c; before = p; outcome = a } ∷ ts) q
+  -- From one packing to another by the moves of these steps, whose numbers rise from n on and stay below e. Between them may be those of the other
+  -- production, which leave this one's packing as it is, and take of the stock.
+  pub data Trace : ℕ → Packing → List Step → ℕ → Packing → Type 0 where
+    ends : {n e : ℕ} {p : Packing} → n ≤ e → Trace n p [] e p
+    moves : {n k e left : ℕ} {p p′ q : Packing} {r : Production} {c : Command} {a : Outcome} {ts : List Step} → n ≤ k → left ≤ o .stock
+        → Move left p k c a p′ → Trace (suc k) p′ ts e q → Trace n p (record { number = k; production = r; command = c; before = p; outcome = a } ∷ ts) e q
 
-  pub trace-from : (cs : List Command) (p : Packing) (n : ℕ) → Trace n p (runFrom o p n cs) (packingFrom o p n cs)
-  unfolding runFrom packingFrom
-  trace-from [] p n = ends
-  trace-from (c ∷ cs) p n = moves (move p n c) (trace-from cs (next o p n c) (suc n))
+  -- A trace from a number on is one from an earlier number on.
+  trace-earlier : {n k e : ℕ} {p q : Packing} {ts : List Step} → n ≤ k → Trace k p ts e q → Trace n p ts e q
+  trace-earlier {n = n} {e = e} l (ends m) = let few : n ≤ e = omega arith in ends few
+  trace-earlier {n = n} l (moves {k = k} m b mv t) = let from : n ≤ k = omega arith in moves from b mv t
 
-  -- The trace of a run from the empty packing.
-  pub trace : (cs : List Command) → Trace 1 empty (run o cs) (packing o cs)
-  trace cs = trace-from cs empty 1
+  pub trace-from : (q : Production) (cs : List Command) (s : Shelf) (n e : ℕ) → e ≡ length cs + n → Trace n (of q s) (stepsOf q (runFrom o s n cs)) e (of q (shelfFrom o s n cs))
+  unfolding runFrom shelfFrom stepsOf
+  trace-from q [] s n e h = let few : n ≤ e = omega arith in ends few
+  trace-from q (c ∷ cs) s n e h = go (whose (s .current) q) (trace-from q cs s′ (suc n) e (omega arith))
+    where
+      s′ : Shelf
+      s′ = nextShelf o s n c
 
-  -- What every move keeps of a packing, the number of the next command and the items on the shelf, every trace keeps.
+      here : Step
+      here = record { number = n; production = s .current; command = c; before = own s; outcome = answerOn o s n c }
+
+      few : stockLeft o s ≤ o .stock
+      few = omega arith
+
+      go : {q : Production} → Whose (s .current) q → Trace (suc n) (of q s′) (stepsOf q (runFrom o s′ (suc n) cs)) e (of q (shelfFrom o s′ (suc n) cs))
+          → Trace n (of q s) (stepsOf q (here ∷ runFrom o s′ (suc n) cs)) e (of q (shelfFrom o s′ (suc n) cs))
+      go its-own t = let from : n ≤ n = omega arith in rw (steps-own here) (moves from few (move (stockLeft o s) (own s) n c) (rw (own-after o s n c) at t))
+      go the-others t = let from : n ≤ suc n = omega arith in rw (steps-other here) (trace-earlier from (rw (other-after o s n c) at t))
+
+  -- The trace of a production from the empty packing.
+  pub trace : (q : Production) (cs : List Command) → Trace 1 empty (steps o q cs) (suc (length cs)) (packing o q cs)
+  trace First cs = trace-from First cs emptyShelf 1 (suc (length cs)) (omega arith)
+  trace Second cs = trace-from Second cs emptyShelf 1 (suc (length cs)) (omega arith)
+
+  -- What every move keeps of a packing, the number of the next command and the items on the shelf, and every command of the other production, every trace
+  -- keeps.
   pub carried : (Kept : ℕ → Packing → List Shelved → Type 0)
-      → ((n : ℕ) (p q : Packing) (c : Command) (a : Outcome) (on : List Shelved) → Move p n c a q → Kept n p on → Kept (suc n) q (shelving o n c a on))
-      → {n : ℕ} {p q : Packing} {ts : List Step} → Trace n p ts q → (e : ℕ) → e ≡ length ts + n → (on : List Shelved) → Kept n p on → Kept e q (shelvedBy o ts on)
-  carried Kept keeps {n = n} {p = p} ends e same on h = let here : n ≡ e = omega arith in subst (λ k. Kept k p on) here h
-  carried Kept keeps (moves m r) e same on h = carried Kept keeps r e (omega arith) _ (keeps _ _ _ _ _ on m h)
+      → ((n k : ℕ) (p : Packing) (on : List Shelved) → n ≤ k → Kept n p on → Kept k p on)
+      → ((left n : ℕ) (p q : Packing) (c : Command) (a : Outcome) (on : List Shelved) → Move left p n c a q → Kept n p on → Kept (suc n) q (shelving o n c a on))
+      → {n e : ℕ} {p q : Packing} {ts : List Step} → Trace n p ts e q → (on : List Shelved) → Kept n p on → Kept e q (shelvedBy o ts on)
+  carried Kept later keeps (ends l) on h = later _ _ _ on l h
+  carried Kept later keeps (moves l b m r) on h = carried Kept later keeps r _ (keeps _ _ _ _ _ _ on m (later _ _ _ on l h))

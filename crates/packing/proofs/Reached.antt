@@ -1,22 +1,26 @@
--- What every packing is that commands can reach: no more bins than the stock, each not overfull, and of the class of its items.
+-- What every packing is that commands can reach: no more bins than the stock, each not overfull, and of the class of its items. And the packings of both
+-- productions together have no more bins than the stock.
 use Prim.Native.Nat.{ℕ, suc, _+_, _%_, _≤_, _<_, max}
-use mathlib.Core.Path.{_≡_, refl}
+use mathlib.Core.Path.{_≡_, refl, ap}
 use mathlib.Core.Bool.{Bool, true, false, not, _&&_, _||_, false≢true}
 use mathlib.Core.List.{List, [], _∷_, List·Memᴰ, List·Memᴰ·not-nil}
 use native.Mathlib.Omega.{arith}
 use borrow.Author.Tests.{leb-true, leb-false, ltb-false}
 use lib.Dec.{eqb, ltb, leb}
 use lib.ListN.{length, length-map}
-use Rattle.packing.specs.Prelude.{if_then_else_, total, any, Opening, SizeClass, A, B1, B2, X, Command, Outcome}
+use Rattle.packing.specs.Prelude.{if_then_else_, total, any, Opening, SizeClass, A, B1, B2, X, Production, First, Second, Command, Outcome}
 use Rattle.packing.specs.Bins.{Item, Bin, Packing, empty, opened, load, add, kind, holdsA, stored}
 use Rattle.packing.specs.Placing.{toClass, besideA, classOf, firstFit, targetOf, permitted, target, hasSpace, takes, binFor, spent, placed}
 use Rattle.packing.specs.Withdrawing.{isNamed, emptiedOf, without}
-use Rattle.packing.specs.Run.{item, Step, packing}
+use Rattle.packing.specs.Shelves.{Shelf, emptyShelf, own, stockLeft}
+use Rattle.packing.specs.Run.{item, Step, nextShelf, shelfFrom, packing}
 use Rattle.packing.specs.Claims.{mayLieIn, SoundBin}
 use Rattle.packing.proofs.Tests.{clash, both-true, each-cons, each-map, each-keep}
 use Rattle.packing.proofs.Putting.{fresh, put-length, put-each}
 use Rattle.packing.proofs.Weights.{total-split}
-use Rattle.packing.proofs.Moves.{Move, places, withdraws, counts, refuses, Trace, ends, moves, trace}
+use Rattle.packing.proofs.Stock.{both-opened}
+use Rattle.packing.proofs.Productions.{own-after, other-after}
+use Rattle.packing.proofs.Moves.{Move, places, withdraws, counts, switches, refuses, move, Trace, ends, moves, trace}
 
 -- First fit passes no more bins than there are.
 pub first-few : (test : Bin → Bool) (bins : List Bin) → firstFit test bins ≤ length bins
@@ -104,13 +108,13 @@ module _ (o : Opening) where
     unfolding placed
     opened-placed = put-length (takes o p i) (fresh (classOf (target o p i))) i (p .bins)
 
-    -- A new bin is opened only while the stock lasts.
-    pub in-stock : spent o p i ≡ false → opened p ≤ o .stock → max (opened p) (binFor o p i) ≤ o .stock
-    in-stock h l = go (ltb (opened p) (binFor o p i)) (leb (o .stock) (opened p)) refl refl h
+    -- A new bin is opened only while what is left of the stock lasts, and so within whatever is no less.
+    pub in-stock : (left most : ℕ) → spent o p i left ≡ false → left ≤ most → opened p ≤ most → max (opened p) (binFor o p i) ≤ most
+    in-stock left most h few l = go (ltb (opened p) (binFor o p i)) (leb left (opened p)) refl refl h
       where
-        go : (a b : Bool) → ltb (opened p) (binFor o p i) ≡ a → leb (o .stock) (opened p) ≡ b → (a && b) ≡ false → max (opened p) (binFor o p i) ≤ o .stock
+        go : (a b : Bool) → ltb (opened p) (binFor o p i) ≡ a → leb left (opened p) ≡ b → (a && b) ≡ false → max (opened p) (binFor o p i) ≤ most
         go true true x y e = clash (cc)
-        go true false x y e = omega (arith, leb-false (o .stock) (opened p) y, first-few (takes o p i) (p .bins))
+        go true false x y e = omega (arith, leb-false left (opened p) y, first-few (takes o p i) (p .bins))
         go false b x y e = omega (arith, ltb-false (opened p) (binFor o p i) x)
 
   -- So is every bin, once an item is placed that a bin can hold.
@@ -145,21 +149,53 @@ module _ (o : Opening) where
   unfolding without
   opened-without named p = length-map (p .bins) (emptiedOf named)
 
-  pub reached-move : {p q : Packing} {n : ℕ} {c : Command} {a : Outcome} → Move o p n c a q → Reached p → Reached q
-  reached-move {p = p} {n = n} (places {s = s} d) h =
-      let i = item n (stored o s) in
-      record {
-        bins-sound = sound-placed p i (d .within-capacity) (h .bins-sound);
-        stock-lasts = omega (arith, opened-placed p i, in-stock p i (d .not-spent) (h .stock-lasts));
-      }
-  reached-move {p = p} (withdraws {named = named} e) h =
-      record { bins-sound = sound-without named p (h .bins-sound); stock-lasts = omega (arith, opened-without named p, h .stock-lasts) }
-  reached-move counts h = h
-  reached-move (refuses z) h = h
+  -- No move opens more than what is left of the stock, nor than whatever is no less.
+  pub opened-move : {left n : ℕ} {p q : Packing} {c : Command} {a : Outcome} (most : ℕ) → Move o left p n c a q → left ≤ most → opened p ≤ most → opened q ≤ most
+  opened-move {left = left} {n = n} {p = p} most (places {s = s} d) few l =
+      omega (arith, opened-placed p (item n (stored o s)), in-stock p (item n (stored o s)) left most (d .not-spent) few l)
+  opened-move {p = p} most (withdraws {named = named} e) few l = omega (arith, opened-without named p)
+  opened-move most counts few l = l
+  opened-move most switches few l = l
+  opened-move most (refuses z) few l = l
 
-  trace-reached : {n : ℕ} {p q : Packing} {ts : List Step} → Trace o n p ts q → Reached p → Reached q
-  trace-reached ends h = h
-  trace-reached (moves m r) h = trace-reached r (reached-move m h)
+  sound-move : {left n : ℕ} {p q : Packing} {c : Command} {a : Outcome} → Move o left p n c a q → ((b : Bin) → List·Memᴰ b (p .bins) → SoundBin o b)
+      → (b : Bin) → List·Memᴰ b (q .bins) → SoundBin o b
+  sound-move {n = n} {p = p} (places {s = s} d) h = sound-placed p (item n (stored o s)) (d .within-capacity) h
+  sound-move {p = p} (withdraws {named = named} e) h = sound-without named p h
+  sound-move counts h = h
+  sound-move switches h = h
+  sound-move (refuses z) h = h
 
-  pub reached : (cs : List Command) → Reached (packing o cs)
-  reached cs = trace-reached (trace o cs) reached-empty
+  pub reached-move : {left n : ℕ} {p q : Packing} {c : Command} {a : Outcome} → Move o left p n c a q → left ≤ o .stock → Reached p → Reached q
+  reached-move m few h = record { bins-sound = sound-move m (h .bins-sound); stock-lasts = opened-move (o .stock) m few (h .stock-lasts) }
+
+  trace-reached : {n e : ℕ} {p q : Packing} {ts : List Step} → Trace o n p ts e q → Reached p → Reached q
+  trace-reached (ends l) h = h
+  trace-reached (moves l few m r) h = trace-reached r (reached-move m few h)
+
+  pub reached : (q : Production) (cs : List Command) → Reached (packing o q cs)
+  reached q cs = trace-reached (trace o q cs) reached-empty
+
+  -- Both together open no more than the stock.
+  both-after : (s : Shelf) (n : ℕ) (c : Command) → opened (s .first) + opened (s .second) ≤ o .stock
+      → opened (nextShelf o s n c .first) + opened (nextShelf o s n c .second) ≤ o .stock
+  both-after s n c h =
+      let left = stockLeft o s in
+      let own-few = opened-move left (move o left (own s) n c) (omega arith) (omega (arith, both-opened s (s .current))) in
+      omega (
+        arith,
+        own-few,
+        both-opened s (s .current),
+        both-opened (nextShelf o s n c) (s .current),
+        ap opened (own-after o s n c),
+        ap opened (other-after o s n c),
+      )
+
+  both-from : (cs : List Command) (s : Shelf) (n : ℕ) → opened (s .first) + opened (s .second) ≤ o .stock
+      → opened (shelfFrom o s n cs .first) + opened (shelfFrom o s n cs .second) ≤ o .stock
+  unfolding shelfFrom
+  both-from [] s n h = h
+  both-from (c ∷ cs) s n h = both-from cs (nextShelf o s n c) (suc n) (both-after s n c h)
+
+  pub both-in-stock : (cs : List Command) → opened (packing o First cs) + opened (packing o Second cs) ≤ o .stock
+  both-in-stock cs = both-from cs emptyShelf 1 (omega arith)

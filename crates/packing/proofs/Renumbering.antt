@@ -11,33 +11,38 @@ use native.Mathlib.Omega.{arith}
 use borrow.Author.Tests.{eqb-true, eqb-false, eq-eqb, ne-eqb}
 use lib.Dec.{eqb}
 use lib.ListN.{length-map}
-use Rattle.packing.specs.Prelude.{total, any, Opening, Command, Outcome}
+use Rattle.packing.specs.Prelude.{total, any, Opening, Production, First, Second, Command, Shelve, Count, Withdraw, Switch, Outcome}
 use Rattle.packing.specs.Refusals.{isRefused}
 use Rattle.packing.specs.SizeClasses.{isA}
 use Rattle.packing.specs.Bins.{Item, Bin, Packing, load, add, kind, freeOn, stored}
 use Rattle.packing.specs.Placing.{Target, toClass, besideA, classOf, firstFit, put, permitted, target, takes, placed}
 use Rattle.packing.specs.Withdrawing.{isNamed, holdsNamed, emptiedOf, without, withdrawal}
-use Rattle.packing.specs.Run.{item, Shelved, shelving, answerTo, next}
-use Rattle.packing.specs.LeftOut.{renamed, renumber, renumberedBin, renumbered, renumberedShelved}
+use Rattle.packing.specs.Productions.{other}
+use Rattle.packing.specs.Shelves.{Shelf, of, own, stockLeft, putBack, belonging}
+use Rattle.packing.specs.Run.{item, Shelved, shelving, answerTo, next, answerOn, nextShelf}
+use Rattle.packing.specs.LeftOut.{renamed, renumber, renumberedBin, renumbered, renumberedShelf, renumberedShelved}
 use Rattle.packing.proofs.Tests.{each-cons, each-map, each-keep}
 use Rattle.packing.proofs.Keeping.{if-map, keep-map}
 use Rattle.packing.proofs.Searching.{found, any-map}
 use Rattle.packing.proofs.Decided.{IsPlaced, goes-in, decides}
 use Rattle.packing.proofs.Putting.{fresh, put-each}
-use Rattle.packing.proofs.Moves.{Move, places, withdraws, counts, refuses}
+use Rattle.packing.proofs.Productions.{Whose, its-own, the-others, whose, own-after, other-after}
+use Rattle.packing.proofs.Moves.{Move, places, withdraws, counts, switches, refuses, move}
 
 module _ (f : ℕ → ℕ) where
   -- A number whose new one is greater than those of all numbers before it.
   abbrev pub Marks : ℕ → Type 0
   Marks n = (m : ℕ) → m < n → f m < f n
 
-  abbrev MarkedBin : Bin → Type 0
+  abbrev pub MarkedBin : Bin → Type 0
   MarkedBin b = (i : Item) → List·Memᴰ i (b .items) → Marks (i .command)
 
-  -- Every item has such a number, in the bins and on the list of those shelved.
-  pub record Marked (p : Packing) (on : List Shelved) : Type 0 where
-    pub in-bins : (b : Bin) → List·Memᴰ b (p .bins) → MarkedBin b
-    pub listed : (s : Shelved) → List·Memᴰ s on → Marks (s .item .command)
+  -- Every item has such a number, in the bins of a packing and on a list of those shelved.
+  abbrev pub Marked : Packing → Type 0
+  Marked p = (b : Bin) → List·Memᴰ b (p .bins) → MarkedBin b
+
+  abbrev pub Listed : List Shelved → Type 0
+  Listed on = (s : Shelved) → List·Memᴰ s on → Marks (s .item .command)
 
   -- Two such numbers are told apart by their new ones.
   told-apart : {a b : ℕ} → Marks a → Marks b → eqb (f a) (f b) ≡ eqb a b
@@ -96,52 +101,104 @@ module _ (f : ℕ → ℕ) where
           let here : takes o (renumbered f p) (renumber f i) (renumberedBin f b) ≡ takes o p i b = cc (permitted-renumbered (target o p i) b, load-renumbered b) in
           (cc, cc (if-map (map (renumberedBin f)) (takes o p i b) (add i b ∷ bs) (b ∷ put (takes o p i) new i bs)))
 
-      module _ (n : ℕ) (on : List Shelved) where
+      module _ (left n : ℕ) where
         -- Under its new number and name a command comes to the same and does the same; and every item after it is marked.
         pub record Same (c : Command) (a : Outcome) (q : Packing) : Type 0 where
-          pub answer : answerTo o (renumbered f p) (f n) (renamed f c) ≡ a
-          pub after : next o (renumbered f p) (f n) (renamed f c) ≡ renumbered f q
-          pub shelved : shelving o (f n) (renamed f c) a (map (renumberedShelved f) on) ≡ map (renumberedShelved f) (shelving o n c a on)
-          pub marked : Marked q (shelving o n c a on)
+          pub answer : answerTo o left (renumbered f p) (f n) (renamed f c) ≡ a
+          pub after : next o left (renumbered f p) (f n) (renamed f c) ≡ renumbered f q
+          pub marked : Marked q
 
-        pub same-move : Marked p on → Marks n → {c : Command} {a : Outcome} {q : Packing} → Move o p n c a q → not (isRefused a) ≡ true → Same c a q
+        same-move : Marked p → Marks n → {c : Command} {a : Outcome} {q : Packing} → Move o left p n c a q → not (isRefused a) ≡ true → Same c a q
         unfolding placed without withdrawal
         same-move h k (places {s = s} d) r =
             let i = item n (stored o s) in
             let new = fresh (classOf (target o p i)) in
             let bins = bins-placing i new (p .bins) in
             let opened = length-map (p .bins) (renumberedBin f) in
-            let again : IsPlaced o (renumbered f p) (renumber f i) s = record { some = d .some; within-capacity = d .within-capacity; not-spent = cc (d .not-spent) } in
-            let decided = decides o (renumbered f p) (renumber f i) s _ (goes-in again) in
+            let again : IsPlaced o (renumbered f p) (renumber f i) left s = record { some = d .some; within-capacity = d .within-capacity; not-spent = cc (d .not-spent) } in
+            let decided = decides o (renumbered f p) (renumber f i) left s _ (goes-in again) in
             let free = free-renumbered (firstFit (takes o p i) (p .bins)) (placed o p i .bins) in
             record {
               answer = cc;
               after = cc;
-              shelved = sym (map-append (renumberedShelved f) on _);
-              marked = record {
-                in-bins =
-                    put-each (takes o p i) new i MarkedBin (λ b t. each-cons (λ j. Marks (j .command)) k)
-                    (each-cons (λ j. Marks (j .command)) k (λ j m. absurd (List·Memᴰ·not-nil m))) (p .bins) (h .in-bins);
-                listed = λ x m.
-                    ⊎-elim (h .listed x) (λ e. subst (λ y. Marks (y .item .command)) (sym (List·Memᴰ·eq-of-singleton e)) k) (List·Memᴰ·append-cases on m);
-              };
+              marked =
+                  put-each (takes o p i) new i MarkedBin (λ b t. each-cons (λ j. Marks (j .command)) k)
+                  (each-cons (λ j. Marks (j .command)) k (λ j m. absurd (List·Memᴰ·not-nil m))) (p .bins) h;
             }
         same-move h k (withdraws {named = named} e) r =
-            let marks = name-marked named (p .bins) (h .in-bins) e in
-            let bins = bins-naming named marks (p .bins) (h .in-bins) in
+            let marks = name-marked named (p .bins) h e in
+            let bins = bins-naming named marks (p .bins) h in
             let free = free-renumbered (firstFit (holdsNamed named) (p .bins)) (without named p .bins) in
             record {
               answer = cc;
               after = cc;
-              shelved =
-                  keep-map (renumberedShelved f) (λ s. not (isNamed named (s .item))) (λ s. not (isNamed (f named) (s .item))) on
-                  (λ s m. ap not (told-apart (h .listed s m) marks));
-              marked = record {
-                in-bins =
-                    each-map (emptiedOf named) MarkedBin (p .bins)
-                    (λ b m. each-keep (λ i. not (isNamed named i)) (λ i. Marks (i .command)) (b .items) (h .in-bins b m));
-                listed = each-keep (λ s. not (isNamed named (s .item))) (λ s. Marks (s .item .command)) on (h .listed);
-              };
+              marked =
+                  each-map (emptiedOf named) MarkedBin (p .bins) (λ b m. each-keep (λ i. not (isNamed named i)) (λ i. Marks (i .command)) (b .items) (h b m));
             }
-        same-move h k counts r = record { answer = cc (length-map (p .bins) (renumberedBin f)); after = refl; shelved = refl; marked = h }
+        same-move h k counts r = record { answer = cc (length-map (p .bins) (renumberedBin f)); after = refl; marked = h }
+        same-move h k switches r = record { answer = refl; after = refl; marked = h }
         same-move h k (refuses z) r = absurd (false≢true r)
+
+        -- And it makes the same of the items on the shelf.
+        pub record SameList (on : List Shelved) (c : Command) (a : Outcome) : Type 0 where
+          pub shelved : shelving o (f n) (renamed f c) a (map (renumberedShelved f) on) ≡ map (renumberedShelved f) (shelving o n c a on)
+          pub listed : Listed (shelving o n c a on)
+
+        pub same-list : Marked p → Marks n → (on : List Shelved) → Listed on → {c : Command} {a : Outcome} {q : Packing} → Move o left p n c a q → SameList on c a
+        same-list h k on l (places d) =
+            record {
+              shelved = sym (map-append (renumberedShelved f) on _);
+              listed = λ x m. ⊎-elim (l x) (λ e. subst (λ y. Marks (y .item .command)) (sym (List·Memᴰ·eq-of-singleton e)) k) (List·Memᴰ·append-cases on m);
+            }
+        same-list h k on l (withdraws {named = named} e) =
+            let marks = name-marked named (p .bins) h e in
+            record {
+              shelved =
+                  keep-map (renumberedShelved f) (λ s. not (isNamed named (s .item))) (λ s. not (isNamed (f named) (s .item))) on (λ s m. ap not (told-apart (l s m) marks));
+              listed = each-keep (λ s. not (isNamed named (s .item))) (λ s. Marks (s .item .command)) on l;
+            }
+        same-list h k on l counts = record { shelved = refl; listed = l }
+        same-list h k on l switches = record { shelved = refl; listed = l }
+        same-list h k on l (refuses z) = record { shelved = refl; listed = l }
+
+    -- On a shelf: the packing of a production and what is left of the stock are those of the renumbered shelf.
+    of-renumbered : (q : Production) (s : Shelf) → of q (renumberedShelf f s) ≡ renumbered f (of q s)
+    of-renumbered First s = refl
+    of-renumbered Second s = refl
+
+    left-renumbered : (s : Shelf) → stockLeft o (renumberedShelf f s) ≡ stockLeft o s
+    left-renumbered s =
+        rw (of-renumbered (other (s .current)) s) (ap (λ n. o .stock - n) (length-map (of (other (s .current)) s .bins) (renumberedBin f)))
+
+    put-renumbered : (q : Production) (p : Packing) (s : Shelf) (r : Production) → putBack q (renumbered f p) (renumberedShelf f s) r ≡ renumberedShelf f (putBack q p s r)
+    put-renumbered First p s r = refl
+    put-renumbered Second p s r = refl
+
+    belonging-renamed : (q : Production) (c : Command) → belonging q (renamed f c) ≡ belonging q c
+    belonging-renamed q (Shelve s) = refl
+    belonging-renamed q Count = refl
+    belonging-renamed q (Withdraw named) = refl
+    belonging-renamed q (Switch r) = refl
+
+    module _ (s : Shelf) (n : ℕ) (c : Command) where
+      pub record SameOn : Type 0 where
+        pub answer : answerOn o (renumberedShelf f s) (f n) (renamed f c) ≡ answerOn o s n c
+        pub after : nextShelf o (renumberedShelf f s) (f n) (renamed f c) ≡ renumberedShelf f (nextShelf o s n c)
+        pub marked : (q : Production) → Marked (of q (nextShelf o s n c))
+
+      pub same-on : ((q : Production) → Marked (of q s)) → Marks n → not (isRefused (answerOn o s n c)) ≡ true → SameOn
+      same-on h k accepted =
+          let q = s .current in
+          let left = stockLeft o s in
+          let p = own s in
+          let there = same-move p left n (h q) k (move o left p n c) accepted in
+          record {
+            answer = rw (left-renumbered s, of-renumbered q s) (there .answer);
+            after =
+                rw (left-renumbered s, of-renumbered q s, there .after, belonging-renamed q c) (put-renumbered q (next o left p n c) s (belonging q c));
+            marked = λ r. whose-marked (whose q r) (there .marked);
+          }
+        where
+          whose-marked : {r : Production} → Whose (s .current) r → Marked (next o (stockLeft o s) (own s) n c) → Marked (of r (nextShelf o s n c))
+          whose-marked its-own m = rw (own-after o s n c) m
+          whose-marked the-others m = rw (other-after o s n c) (h (other (s .current)))

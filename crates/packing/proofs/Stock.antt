@@ -1,5 +1,6 @@
--- Refusals 8, 9 and 10 of an item, each exactly under its condition: 10 when no permitted bin has space and the whole stock is opened.
-use Prim.Native.Nat.{ℕ, suc, _+_, _≤_, _<_}
+-- Refusals 8, 9 and 10 of an item, each exactly under its condition: 10 when no permitted bin of the
+-- production has space and both productions together have opened the whole stock.
+use Prim.Native.Nat.{ℕ, suc, _+_, _-_, _≤_, _<_}
 use mathlib.Core.Path.{_≡_, refl, ap}
 use mathlib.Core.Bool.{Bool, true, false, _&&_, false≢true}
 use mathlib.Core.List.{List, [], _∷_, List·Memᴰ, List·Memᴰ·head, List·Memᴰ·tail, List·Memᴰ·not-nil}
@@ -7,9 +8,11 @@ use native.Mathlib.Omega.{arith}
 use borrow.Author.Tests.{ltb-true, leb-true, leb-false, lt-ltb, le-leb, lt-leb}
 use lib.Dec.{ltb, leb}
 use lib.ListN.{length}
-use Rattle.packing.specs.Prelude.{if_then_else_, Opening, Refused, SizeZero, AboveCapacity, StockSpent}
+use Rattle.packing.specs.Prelude.{if_then_else_, Opening, First, Second, Production, Refused, SizeZero, AboveCapacity, StockSpent}
 use Rattle.packing.specs.Bins.{Item, Bin, Packing, opened, load, stored}
 use Rattle.packing.specs.Placing.{Decision, firstFit, permitted, target, hasSpace, takes, binFor, decision, placed}
+use Rattle.packing.specs.Productions.{other}
+use Rattle.packing.specs.Shelves.{Shelf, of, own, stockLeft}
 use Rattle.packing.specs.Run.{item, told}
 use Rattle.packing.specs.Claims.{Spent, RefusedExactly}
 use Rattle.packing.proofs.Tests.{clash, both-true, each-cons}
@@ -47,47 +50,59 @@ module _ (o : Opening) (p : Packing) (i : Item) where
       go true e = lt-leb (load b + i .size) (o .capacity) (h e)
       go false e = refl
 
-module _ (o : Opening) (p : Packing) (i : Item) (bare : ℕ) where
-  zero-only : (d : Decision) → Decided o p i bare d → told o (placed o p i) d ≡ Refused SizeZero → bare ≡ 0
+-- What the two productions have opened, whichever is current.
+pub both-opened : (s : Shelf) (q : Production) → opened (of q s) + opened (of (other q) s) ≡ opened (s .first) + opened (s .second)
+both-opened s First = omega arith
+both-opened s Second = omega arith
+
+module _ (o : Opening) (p : Packing) (i : Item) (left bare : ℕ) where
+  zero-only : (d : Decision) → Decided o p i left bare d → told o (placed o p i) d ≡ Refused SizeZero → bare ≡ 0
   zero-only d (goes-in h) e = clash (cc)
   zero-only d (is-zero h) e = h
   zero-only d (is-above l m) e = clash (cc)
   zero-only d (is-spent l m z) e = clash (cc)
 
-  above-only : (d : Decision) → Decided o p i bare d → told o (placed o p i) d ≡ Refused AboveCapacity → (1 ≤ bare) × (o .capacity < i .size)
+  above-only : (d : Decision) → Decided o p i left bare d → told o (placed o p i) d ≡ Refused AboveCapacity → (1 ≤ bare) × (o .capacity < i .size)
   above-only d (goes-in h) e = clash (cc)
   above-only d (is-zero h) e = clash (cc)
   above-only d (is-above l m) e = (l, m)
   above-only d (is-spent l m z) e = clash (cc)
 
-  spent-only : (d : Decision) → Decided o p i bare d → told o (placed o p i) d ≡ Refused StockSpent → Spent o p i bare
+-- The stock is spent for the production that is current.
+module _ (o : Opening) (s : Shelf) (i : Item) (bare : ℕ) where
+  spent-only : (d : Decision) → Decided o (own s) i (stockLeft o s) bare d → told o (placed o (own s) i) d ≡ Refused StockSpent → Spent o s i bare
   spent-only d (goes-in h) e = clash (cc)
   spent-only d (is-zero h) e = clash (cc)
   spent-only d (is-above l m) e = clash (cc)
   spent-only d (is-spent l m z) e =
-      let both = both-true (ltb (opened p) (binFor o p i)) (leb (o .stock) (opened p)) z in
+      let p = own s in
+      let both = both-true (ltb (opened p) (binFor o p i)) (leb (stockLeft o s) (opened p)) z in
       let new = ltb-true (opened p) (binFor o p i) (both .0) in
       record {
         some = l;
         within-capacity = m;
         no-space = λ b k. full o p i b (none-takes (takes o p i) (p .bins) (omega arith) b k);
-        all-opened = leb-true (o .stock) (opened p) (both .1);
+        all-opened = omega (arith, leb-true (stockLeft o s) (opened p) (both .1), both-opened s (s .current));
       }
 
-  spent-then : Spent o p i bare → told o (placed o p i) (decision o p i bare) ≡ Refused StockSpent
+  spent-then : Spent o s i bare → told o (placed o (own s) i) (decision o (own s) i (stockLeft o s) bare) ≡ Refused StockSpent
   spent-then h =
+      let p = own s in
       let all = passes-all (takes o p i) (p .bins) (λ b m. refuses o p i b (h .no-space b m)) in
       ap (told o (placed o p i))
-      (decides o p i bare _
-      (is-spent (h .some) (h .within-capacity) (rw (lt-ltb (opened p) (binFor o p i) (omega arith), le-leb (o .stock) (opened p) (h .all-opened)))))
+      (decides o p i (stockLeft o s) bare _
+      (is-spent (h .some) (h .within-capacity)
+      (rw (lt-ltb (opened p) (binFor o p i) (omega arith), le-leb (stockLeft o s) (opened p) (omega (arith, h .all-opened, both-opened s (s .current)))))))
 
-pub refused-exactly : (o : Opening) (p : Packing) (n s : ℕ) → RefusedExactly o p n s
-refused-exactly o p n s =
-    let i = item n (stored o s) in
-    let d = decision o p i s in
-    let view = decided o p i s in
+pub refused-exactly : (o : Opening) (s : Shelf) (n size : ℕ) → RefusedExactly o s n size
+refused-exactly o s n size =
+    let i = item n (stored o size) in
+    let p = own s in
+    let left = stockLeft o s in
+    let d = decision o p i left size in
+    let view = decided o p i left size in
     record {
-      zero = (zero-only o p i s d view, λ e. ap (told o (placed o p i)) (decides o p i s _ (is-zero e)));
-      above = (above-only o p i s d view, λ h. ap (told o (placed o p i)) (decides o p i s _ (is-above (h .0) (h .1))));
-      spent = (spent-only o p i s d view, spent-then o p i s);
+      zero = (zero-only o p i left size d view, λ e. ap (told o (placed o p i)) (decides o p i left size _ (is-zero e)));
+      above = (above-only o p i left size d view, λ h. ap (told o (placed o p i)) (decides o p i left size _ (is-above (h .0) (h .1))));
+      spent = (spent-only o s i size d view, spent-then o s i size);
     }

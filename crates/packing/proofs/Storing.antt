@@ -1,19 +1,22 @@
 -- With a trailer all is as without one, with the stored sizes sent: a command does the same under both openings.
-use mathlib.Core.Path.{_≡_, refl, sym, ap, _∙_}
+use mathlib.Core.Path.{_≡_, refl, sym, ap, subst, _∙_}
+use mathlib.Core.Bool.{Bool, true, false}
 use mathlib.Core.List.{List, [], _∷_, _++_, map, flatten}
 use Prim.Native.Nat.{ℕ, suc, _+_, _≤_}
 use native.Mathlib.Decide.{ℕ-discrete}
 use native.Mathlib.Omega.{arith}
 use borrow.Author.Tests.{ne-eqb}
 use lib.Dec.{eqb}
-use Rattle.packing.specs.Prelude.{if_then_else_, Opening, Command, Shelve, Count, Withdraw, Outcome}
-use Rattle.packing.specs.Bins.{Item, Packing, empty, stored}
+use Rattle.packing.specs.Prelude.{if_then_else_, Opening, Production, Command, Shelve, Count, Withdraw, Switch, Outcome}
+use Rattle.packing.specs.Productions.{isSame}
+use Rattle.packing.specs.Bins.{Item, Packing, stored}
 use Rattle.packing.specs.Placing.{Decision, into, refusing, decision, placed}
 use Rattle.packing.specs.Withdrawing.{withdrawal}
 use Rattle.packing.specs.Openings.{noTrailer, byStored}
-use Rattle.packing.specs.Run.{item, told, Step, Shelved, shelving, placement, entriesOf, shelvedBy, answerTo, done, next, runFrom, packingFrom}
+use Rattle.packing.specs.Shelves.{Shelf, emptyShelf, own, stockLeft, putBack, belonging}
+use Rattle.packing.specs.Run.{item, told, Step, Shelved, shelving, placement, entriesOf, shelvedBy, answerTo, done, next, answerOn, nextShelf, stepsOf, runFrom, shelfFrom}
 use Rattle.packing.specs.Claims.{ByStoredSizes}
-use Rattle.packing.proofs.Moves.{Move, places, withdraws, counts, refuses, move}
+use Rattle.packing.proofs.Moves.{Move, places, withdraws, counts, switches, refuses, move}
 
 module _ (o : Opening) where
   abbrev o₀ : Opening
@@ -27,9 +30,9 @@ module _ (o : Opening) where
   stores : (s : ℕ) → 1 ≤ s → stored o₀ (sent s) ≡ stored o s
   stores s l = rw (ne-eqb s 0 (λ e. omega arith)) (omega arith)
 
-  module _ (p : Packing) (n : ℕ) where
+  module _ (left : ℕ) (p : Packing) (n : ℕ) where
     -- Nothing but the bare size 0 is told from others.
-    same-decision : (i : Item) (a b : ℕ) → 1 ≤ a → 1 ≤ b → decision o₀ p i a ≡ decision o p i b
+    same-decision : (i : Item) (a b : ℕ) → 1 ≤ a → 1 ≤ b → decision o₀ p i left a ≡ decision o p i left b
     unfolding decision
     same-decision i a b l m = rw (ne-eqb a 0 (λ e. omega arith), ne-eqb b 0 (λ e. omega arith))
 
@@ -43,8 +46,8 @@ module _ (o : Opening) where
 
     -- A command comes to the same, and does the same.
     pub record Same (c : Command) : Type 0 where
-      pub answer : answerTo o₀ p n (byStored o c) ≡ answerTo o p n c
-      pub after : next o₀ p n (byStored o c) ≡ next o p n c
+      pub answer : answerTo o₀ left p n (byStored o c) ≡ answerTo o left p n c
+      pub after : next o₀ left p n (byStored o c) ≡ next o left p n c
 
     same-zero : Same (Shelve 0)
     unfolding decision
@@ -54,8 +57,8 @@ module _ (o : Opening) where
     same-item s l =
         let i = item n (stored o s) in
         let some : 1 ≤ sent s = rw (ne-eqb s 0 (λ e. omega arith)) (omega arith) in
-        let answer : answerTo o₀ p n (Shelve (sent s)) ≡ answerTo o p n (Shelve s) =
-        rw (stores s l, same-placed i, same-decision i (sent s) s some l) (same-told (placed o p i) (decision o p i s)) in
+        let answer : answerTo o₀ left p n (Shelve (sent s)) ≡ answerTo o left p n (Shelve s) =
+        rw (stores s l, same-placed i, same-decision i (sent s) s some l) (same-told (placed o p i) (decision o p i left s)) in
         let does : done o₀ p n (Shelve (sent s)) ≡ done o p n (Shelve s) = rw (stores s l) (same-placed i) in
         record { answer = answer; after = rw (answer, does) }
 
@@ -67,52 +70,94 @@ module _ (o : Opening) where
     ]
     same Count = record { answer = refl; after = refl }
     same (Withdraw named) = record { answer = refl; after = refl }
+    same (Switch r) = record { answer = refl; after = refl }
+
+  -- So it does on a shelf.
+  same-belonging : (q : Production) (c : Command) → belonging q (byStored o c) ≡ belonging q c
+  same-belonging q (Shelve s) = refl
+  same-belonging q Count = refl
+  same-belonging q (Withdraw named) = refl
+  same-belonging q (Switch r) = refl
+
+  same-on : (s : Shelf) (n : ℕ) (c : Command) → answerOn o₀ s n (byStored o c) ≡ answerOn o s n c
+  same-on s n c = same (stockLeft o s) (own s) n c .answer
+
+  same-shelf : (s : Shelf) (n : ℕ) (c : Command) → nextShelf o₀ s n (byStored o c) ≡ nextShelf o s n c
+  same-shelf s n c =
+      ap (λ p. putBack (s .current) p s (belonging (s .current) (byStored o c))) (same (stockLeft o s) (own s) n c .after)
+      ∙ ap (putBack (s .current) (next o (stockLeft o s) (own s) n c) s) (same-belonging (s .current) c)
 
   -- What it comes to makes the same of the items on the shelf, and of those accepted.
-  same-shelving : {p q : Packing} {n : ℕ} {c : Command} {a : Outcome} → Move o p n c a q → (on : List Shelved) → shelving o₀ n (byStored o c) a on ≡ shelving o n c a on
+  same-shelving : {left n : ℕ} {p q : Packing} {c : Command} {a : Outcome} → Move o left p n c a q → (on : List Shelved)
+      → shelving o₀ n (byStored o c) a on ≡ shelving o n c a on
   same-shelving (places {s = s} h) on = rw (stores s (h .some))
   same-shelving (withdraws e) on = refl
   same-shelving counts on = refl
+  same-shelving switches on = refl
   same-shelving (refuses z) on = refl
 
-  same-placement : {p q : Packing} {n : ℕ} {c : Command} {a : Outcome} → Move o p n c a q → placement o₀ (byStored o c) a ≡ placement o c a
+  same-placement : {left n : ℕ} {p q : Packing} {c : Command} {a : Outcome} → Move o left p n c a q → placement o₀ (byStored o c) a ≡ placement o c a
   same-placement (places {s = s} h) = rw (stores s (h .some))
   same-placement (withdraws e) = refl
   same-placement counts = refl
+  same-placement switches = refl
   same-placement (refuses z) = refl
 
-  -- Two runs that come to the same, from the same items on the shelf.
-  record SameRun (on : List Shelved) (ts₀ ts : List Step) (q₀ q : Packing) : Type 0 where
-    outcomes : map (λ t. t .outcome) ts₀ ≡ map (λ t. t .outcome) ts
-    packing : q₀ ≡ q
-    shelved : shelvedBy o₀ ts₀ on ≡ shelvedBy o ts on
-    accepted : entriesOf o₀ ts₀ ≡ entriesOf o ts
+  -- Steps that come to the same, of the same productions.
+  data SameSteps : List Step → List Step → Type 0 where
+    none : SameSteps [] []
+    one-more : {t₀ t : Step} {ts₀ ts : List Step} → t₀ .outcome ≡ t .outcome → t₀ .production ≡ t .production
+        → ((on : List Shelved) → shelving o₀ (t₀ .number) (t₀ .command) (t₀ .outcome) on ≡ shelving o (t .number) (t .command) (t .outcome) on)
+        → placement o₀ (t₀ .command) (t₀ .outcome) ≡ placement o (t .command) (t .outcome) → SameSteps ts₀ ts → SameSteps (t₀ ∷ ts₀) (t ∷ ts)
 
-  -- So do those of every list of commands.
-  same-from : (cs : List Command) (p : Packing) (n : ℕ) (on : List Shelved)
-      → SameRun on (runFrom o₀ p n (map (byStored o) cs)) (runFrom o p n cs) (packingFrom o₀ p n (map (byStored o) cs)) (packingFrom o p n cs)
-  unfolding runFrom packingFrom flatten
-  same-from [] p n on = record { outcomes = refl; packing = refl; shelved = refl; accepted = refl }
-  same-from (c ∷ cs) p n on = go _ _ (same p n c .answer) (same p n c .after) (same-from cs (next o p n c) (suc n))
+  same-outcomes : {ts₀ ts : List Step} → SameSteps ts₀ ts → map (λ t. t .outcome) ts₀ ≡ map (λ t. t .outcome) ts
+  same-outcomes none = refl
+  same-outcomes (one-more a r s p more) = let later = same-outcomes more in cc
+
+  same-steps : (q : Production) {ts₀ ts : List Step} → SameSteps ts₀ ts → SameSteps (stepsOf q ts₀) (stepsOf q ts)
+  unfolding stepsOf
+  same-steps q none = none
+  same-steps q (one-more {t₀ = t₀} {t = t} {ts₀ = ts₀} {ts = ts} a r s p more) = rw (r, stepsOf) (go (isSame q (t .production)) (same-steps q more))
     where
-      After : Packing → List Shelved → Type 0
-      After q on = SameRun on (runFrom o₀ q (suc n) (map (byStored o) cs)) (runFrom o q (suc n) cs) (packingFrom o₀ q (suc n) (map (byStored o) cs)) (packingFrom o q (suc n) cs)
+      go : (b : Bool) → SameSteps (stepsOf q ts₀) (stepsOf q ts)
+          → SameSteps (elim b [ true ↦ t₀ ∷ stepsOf q ts₀ | false ↦ stepsOf q ts₀ ]) (elim b [ true ↦ t ∷ stepsOf q ts | false ↦ stepsOf q ts ])
+      go true h = one-more a r s p h
+      go false h = h
 
-      go : (a : Outcome) (q : Packing) → a ≡ answerTo o p n c → q ≡ next o p n c → ((on : List Shelved) → After (next o p n c) on)
-          → SameRun on (record { number = n; command = byStored o c; before = p; outcome = a } ∷ runFrom o₀ q (suc n) (map (byStored o) cs)) (runFrom o p n (c ∷ cs))
-          (packingFrom o₀ q (suc n) (map (byStored o) cs)) (packingFrom o p n (c ∷ cs))
-      go a q e f h =
-          let m = move o p n c in
-          let later = h (shelving o n c (answerTo o p n c) on) in
-          rw (e, f)
-          (record {
-            outcomes = ap (λ l. answerTo o p n c ∷ l) (later .outcomes);
-            packing = later .packing;
-            shelved = ap (shelvedBy o₀ (runFrom o₀ (next o p n c) (suc n) (map (byStored o) cs))) (same-shelving m on) ∙ later .shelved;
-            accepted = ap (λ l. l ++ entriesOf o₀ (runFrom o₀ (next o p n c) (suc n) (map (byStored o) cs))) (same-placement m) ∙ ap (λ l. placement o c (answerTo o p n c) ++ l) (later .accepted);
-          })
+  same-shelved : {ts₀ ts : List Step} → SameSteps ts₀ ts → (on : List Shelved) → shelvedBy o₀ ts₀ on ≡ shelvedBy o ts on
+  same-shelved none on = refl
+  same-shelved (one-more {ts₀ = ts₀} a r s p more) on = ap (shelvedBy o₀ ts₀) (s on) ∙ same-shelved more _
+
+  same-entries : {ts₀ ts : List Step} → SameSteps ts₀ ts → entriesOf o₀ ts₀ ≡ entriesOf o ts
+  unfolding flatten
+  same-entries none = refl
+  same-entries (one-more a r s p more) = let later = same-entries more in cc
+
+  -- Every list of commands does so, and leaves the same shelf.
+  record SameRun (cs : List Command) (s : Shelf) (n : ℕ) : Type 0 where
+    steps : SameSteps (runFrom o₀ s n (map (byStored o) cs)) (runFrom o s n cs)
+    shelf : shelfFrom o₀ s n (map (byStored o) cs) ≡ shelfFrom o s n cs
+
+  same-run : (cs : List Command) (s : Shelf) (n : ℕ) → SameRun cs s n
+  unfolding runFrom shelfFrom
+  same-run [] s n = record { steps = none; shelf = refl }
+  same-run (c ∷ cs) s n =
+      let later = same-run cs (nextShelf o s n c) (suc n) in
+      let m = move o (stockLeft o s) (own s) n c in
+      record {
+        steps =
+            one-more (same-on s n c) refl (λ on. ap (λ a. shelving o₀ n (byStored o c) a on) (same-on s n c) ∙ same-shelving m on)
+            (ap (placement o₀ (byStored o c)) (same-on s n c) ∙ same-placement m)
+            (subst (λ x. SameSteps (runFrom o₀ x (suc n) (map (byStored o) cs)) (runFrom o (nextShelf o s n c) (suc n) cs)) (sym (same-shelf s n c)) (later .steps));
+        shelf = ap (λ x. shelfFrom o₀ x (suc n) (map (byStored o) cs)) (same-shelf s n c) ∙ later .shelf;
+      }
 
 pub by-stored-sizes : (o : Opening) (cs : List Command) → ByStoredSizes o cs
 by-stored-sizes o cs =
-    let all = same-from o cs empty 1 [] in
-    record { same-outcomes = sym (all .outcomes); same-packing = sym (all .packing); same-shelved = sym (all .shelved); same-accepted = sym (all .accepted) }
+    let all = same-run o cs emptyShelf 1 in
+    record {
+      same-outcomes = sym (same-outcomes o (all .steps));
+      same-shelf = sym (all .shelf);
+      same-shelved = λ q. sym (same-shelved o (same-steps o q (all .steps)) []);
+      same-accepted = λ q. sym (same-entries o (same-steps o q (all .steps)));
+    }

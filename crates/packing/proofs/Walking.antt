@@ -16,23 +16,23 @@ use Rattle.packing.proofs.Accepted.{refused-accepted}
 
 -- One command, by what stands at the front.
 module _ (o : Opening) (offset : ℕ) where
-  commands-whole : (left : ℕ) (s : List ℕ) (c : Command) (w : ℕ) → frontOf s ≡ whole c w
+  pub commands-whole : (left : ℕ) (s : List ℕ) (c : Command) (w : ℕ) → frontOf s ≡ whole c w
       → commands o (suc left) offset s ≡ follow c (commands o left (offset + suc w) (drop (suc w) s))
   unfolding commands
   commands-whole left [] c w e = clash (cc)
   commands-whole left (b ∷ s) c w e = rw (e, commands)
 
-  commands-faulty : (left : ℕ) (s : List ℕ) (reason : StreamReason) → 1 ≤ length s → frontOf s ≡ faulty reason → commands o (suc left) offset s ≡ refused reason offset
+  pub commands-faulty : (left : ℕ) (s : List ℕ) (reason : StreamReason) → 1 ≤ length s → frontOf s ≡ faulty reason → commands o (suc left) offset s ≡ refused reason offset
   unfolding commands
   commands-faulty left [] reason h e = absurd (omega arith)
   commands-faulty left (b ∷ s) reason h e = rw (e, commands)
 
-  commands-full : (s : List ℕ) → 1 ≤ length s → commands o 0 offset s ≡ refused TooManyCommands offset
+  pub commands-full : (s : List ℕ) → 1 ≤ length s → commands o 0 offset s ≡ refused TooManyCommands offset
   unfolding commands
   commands-full [] h = absurd (omega arith)
   commands-full (b ∷ s) h = refl
 
-  commands-none : (left : ℕ) (s : List ℕ) → length s ≡ 0 → commands o left offset s ≡ accepted o []
+  pub commands-none : (left : ℕ) (s : List ℕ) → length s ≡ 0 → commands o left offset s ≡ accepted o []
   unfolding commands
   commands-none zero [] h = refl
   commands-none (suc left) [] h = refl

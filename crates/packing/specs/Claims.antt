@@ -2,19 +2,21 @@
 -- own answers are stated in the crate worst_case.
 use Rattle.packing.specs.Prelude.{ℕ, suc, _+_, _*_, _≤_, _<_, min, _≡_, _↔_, Bool, true, false, _||_}
 use Rattle.packing.specs.Prelude.{List, [], _∷_, _++_, map, zipWith, flatten, reverse, length, take, drop, List·Memᴰ, total, any, keep, _=?_}
-use Rattle.packing.specs.Prelude.{Opening, SizeClass, A, B1, B2, X, Command, Shelve, Count, Withdraw, Outcome, Placed, Withdrawn, Refused, ItemReason, SizeZero, AboveCapacity, StockSpent, NotShelved}
+use Rattle.packing.specs.Prelude.{Opening, SizeClass, A, B1, B2, X, Production, First, Second, Command, Shelve, Count, Withdraw, Switch, Outcome, Placed, Withdrawn, Switched, Refused, ItemReason, SizeZero, AboveCapacity, StockSpent, NotShelved}
 use Rattle.packing.specs.Prelude.{StreamResult, PlanResult}
+use Rattle.packing.specs.Productions.{other}
 use Rattle.packing.specs.Refusals.{isRefused, isPlaced, isWithdrawn, binsNamed, word, freeUnits, outcomeOf, figures, streamGives, planGives}
 use Rattle.packing.specs.SizeClasses.{sizeClass, countB2}
 use Rattle.packing.specs.Bins.{Item, Bin, Packing, opened, load, itemsOf, kind, stored}
 use Rattle.packing.specs.Placing.{permitted, target, takes}
+use Rattle.packing.specs.Shelves.{Shelf, own, isSwitch}
 use Rattle.packing.specs.Limits.{openingGood, mostCommands}
 use Rattle.packing.specs.Streams.{isOpening, firstByte, openingLength, openingOf, behindOpening, accepted, commands, verdict}
 use Rattle.packing.specs.Openings.{withoutTrailer, withZeroTrailer, moved, noTrailer, byStored}
-use Rattle.packing.specs.Run.{item, Step, answerTo, next, run, packing, outcomes, answers, placements, stillShelved, result, rowAtExit}
+use Rattle.packing.specs.Run.{item, Step, answerOn, nextShelf, run, outcomes, answers, shelf, current, steps, placements, stillShelved, packing, result, rowAtExit}
 use Rattle.packing.specs.Counting.{stockPlaces, walk}
 use Rattle.packing.specs.Compared.{acceptedSizes, numberOpened, noneOut, shelfPlan, shelvedSizes, sizesIn}
-use Rattle.packing.specs.LeftOut.{notRefused, changes, newNumber, resent, outcomesKept, renumbered, renumberedShelved}
+use Rattle.packing.specs.LeftOut.{notRefused, changes, newNumber, resent, outcomesKept, renumberedShelf, renumberedShelved}
 
 -- The inequalities of each size class: the tests before it failed.
 abbrev pub Bounds : (c s : ℕ) → SizeClass → Type 0
@@ -75,61 +77,82 @@ pub record OnShelf (ts : List Step) (named : ℕ) : Type 0 where
 abbrev pub classesOf : Packing → List ℕ
 classesOf p = map (λ b. b .class) (p .bins)
 
-module _ (o : Opening) (cs : List Command) where
+-- Of one production.
+module _ (o : Opening) (q : Production) (cs : List Command) where
   -- After each command bin n holds the items still shelved that were answered n, in the stream's order, and no others. (The last item of a bin stands
   -- first.)
   abbrev pub HoldsAnswered : Type 0
-  HoldsAnswered = (j n : ℕ) → itemsOf n (packing o (take j cs)) ≡ reverse (map (λ s. s .item) (keep (λ s. s .bin =? n) (stillShelved o (take j cs))))
+  HoldsAnswered = (j n : ℕ) → itemsOf n (packing o q (take j cs)) ≡ reverse (map (λ s. s .item) (keep (λ s. s .bin =? n) (stillShelved o q (take j cs))))
 
   pub record NeverOverfull : Type 0 where
     -- After each command the items still shelved that were answered n are together no larger than the capacity, whatever the number n.
-    pub shown : (j n : ℕ) → total (sizesIn n (shelfPlan o (take j cs))) ≤ o .capacity
+    pub shown : (j n : ℕ) → total (sizesIn n (shelfPlan o q (take j cs))) ≤ o .capacity
     -- Nor does the load of a bin exceed it; every bin has its class, 1 to 4.
-    pub bins : (j : ℕ) (b : Bin) → List·Memᴰ b (packing o (take j cs) .bins) → SoundBin o b
+    pub bins : (j : ℕ) (b : Bin) → List·Memᴰ b (packing o q (take j cs) .bins) → SoundBin o b
 
-  -- Each item goes to the lowest permitted bin with space under the loads then present.
-  abbrev pub LowestPermitted : Type 0
-  LowestPermitted =
-      (j size bin free : ℕ) (later : List Command) (others : List Outcome) → drop j cs ≡ Shelve size ∷ later
-      → drop j (outcomes o cs) ≡ Placed bin free ∷ others → Lowest o (packing o (take j cs)) (item (suc j) (stored o size)) bin
-
-  -- Where command j + 1 is answered by a bin and its free units, these are that bin's after every command up to which it is opened and the items still
-  -- shelved that were answered its number are the same: from that command on, until an item goes there or leaves it.
+  -- Where command j + 1, of this production, is answered by a bin and its free units, these are that bin's after every command up to which it is opened
+  -- and the items still shelved that were answered its number are the same: from that command on, until an item goes there or leaves it.
   abbrev pub FreeUnits : Type 0
   FreeUnits =
-      (j i bin : ℕ) (a : Outcome) (later : List Outcome) → drop j (outcomes o cs) ≡ a ∷ later → binsNamed a ≡ bin ∷ []
-      → bin ≤ numberOpened o (take i cs) → sizesIn bin (shelfPlan o (take i cs)) ≡ sizesIn bin (shelfPlan o (take (suc j) cs))
-      → FreeOf o (packing o (take i cs)) bin (freeUnits a)
+      (j i bin : ℕ) (a : Outcome) (later : List Outcome) → current o (take j cs) ≡ q → drop j (outcomes o cs) ≡ a ∷ later → binsNamed a ≡ bin ∷ []
+      → bin ≤ numberOpened o q (take i cs) → sizesIn bin (shelfPlan o q (take i cs)) ≡ sizesIn bin (shelfPlan o q (take (suc j) cs))
+      → FreeOf o (packing o q (take i cs)) bin (freeUnits a)
 
   -- The loads always add up to the sizes of the items still shelved.
   abbrev pub LoadsAddUp : Type 0
-  LoadsAddUp = (j : ℕ) → total (map load (packing o (take j cs) .bins)) ≡ total (shelvedSizes o (take j cs))
+  LoadsAddUp = (j : ℕ) → total (map load (packing o q (take j cs) .bins)) ≡ total (shelvedSizes o q (take j cs))
 
   -- Where no withdrawal is accepted, the items still shelved are those accepted.
   abbrev pub OneList : Type 0
-  OneList = noneOut o cs ≡ true → shelfPlan o cs ≡ placements o cs
+  OneList = noneOut o q cs ≡ true → shelfPlan o q cs ≡ placements o q cs
+
+  pub record Stays : Type 0 where
+    -- "The B2 count never goes back": it is of all items accepted, whatever became of them.
+    pub b2-count : (j : ℕ) → packing o q (take j cs) .b2s ≡ total (map (λ s. countB2 (sizeClass (o .capacity) s)) (acceptedSizes o q (take j cs)))
+    -- "An emptied cartridge stays opened, keeps its number and class": the classes by number are those of before, and then some.
+    pub classes-stay : (i j : ℕ) → take (opened (packing o q (take i cs))) (classesOf (packing o q (take (i + j) cs))) ≡ classesOf (packing o q (take i cs))
+
+  -- After each command every bin number answered by then is from 1 to the number opened.
+  abbrev pub AnswersInRange : Type 0
+  AnswersInRange = (j bin : ℕ) → List·Memᴰ bin (flatten (map (λ t. binsNamed (t .outcome)) (steps o q (take j cs)))) → (1 ≤ bin) × (bin ≤ numberOpened o q (take j cs))
+
+  -- "Opened ones have no gaps among them": after each command a number was answered to an accepted item exactly if it is from 1 to the number opened,
+  -- which is the number of bins.
+  pub record Opened : Type 0 where
+    pub bins : opened (packing o q cs) ≡ numberOpened o q cs
+    pub no-gaps : (j n : ℕ) → (any (λ e. e .bin =? n) (placements o q (take j cs)) ≡ true) ↔ ((1 ≤ n) × (n ≤ numberOpened o q (take j cs)))
+
+  -- After each command the walk over the places of the stock finds the number opened, and has read "the lesser of the stock and the figure plus one".
+  abbrev pub EarlyCount : Type 0
+  EarlyCount =
+      (j : ℕ) → walk (stockPlaces (o .stock) (packing o q (take j cs) .bins))
+      ≡ record { figure = numberOpened o q (take j cs); read = min (o .stock) (numberOpened o q (take j cs) + 1) }
+
+-- Of both. A command's production is the one that is current where it comes.
+module _ (o : Opening) (cs : List Command) where
+  -- Each item goes to the lowest permitted bin with space under the loads then present, of its production.
+  abbrev pub LowestPermitted : Type 0
+  LowestPermitted =
+      (j size bin free : ℕ) (later : List Command) (others : List Outcome) → drop j cs ≡ Shelve size ∷ later
+      → drop j (outcomes o cs) ≡ Placed bin free ∷ others → Lowest o (packing o (current o (take j cs)) (take j cs)) (item (suc j) (stored o size)) bin
 
   -- "Class, load, the loads' sum, free units, refusal 9 and every plan go by the stored size": all is as without a trailer, with the stored sizes sent.
   pub record ByStoredSizes : Type 0 where
     pub same-outcomes : outcomes o cs ≡ outcomes (noTrailer o) (map (byStored o) cs)
-    pub same-packing : packing o cs ≡ packing (noTrailer o) (map (byStored o) cs)
-    pub same-shelved : stillShelved o cs ≡ stillShelved (noTrailer o) (map (byStored o) cs)
-    pub same-accepted : placements o cs ≡ placements (noTrailer o) (map (byStored o) cs)
+    pub same-shelf : shelf o cs ≡ shelf (noTrailer o) (map (byStored o) cs)
+    pub same-shelved : (q : Production) → stillShelved o q cs ≡ stillShelved (noTrailer o) q (map (byStored o) cs)
+    pub same-accepted : (q : Production) → placements o q cs ≡ placements (noTrailer o) q (map (byStored o) cs)
 
   pub record Withdrawals : Type 0 where
-    -- Refused with 17 exactly when the item named is not on the shelf.
+    -- Refused with 17 exactly when the item named is not on the shelf of the production: "a master of the other cannot be taken out".
     pub exactly : (j named : ℕ) (later : List Command) → drop j cs ≡ Withdraw named ∷ later
-        → (take 1 (drop j (outcomes o cs)) ≡ Refused NotShelved ∷ []) ↔ (OnShelf (take j (run o cs)) named → ⊥)
+        → (take 1 (drop j (outcomes o cs)) ≡ Refused NotShelved ∷ []) ↔ (OnShelf (steps o (current o (take j cs)) (take j cs)) named → ⊥)
     -- "It is the only check for 04": an item that is on the shelf is taken out.
     pub only-check : (j named : ℕ) (a : Outcome) (later : List Command) (others : List Outcome) → drop j cs ≡ Withdraw named ∷ later
-        → drop j (outcomes o cs) ≡ a ∷ others → OnShelf (take j (run o cs)) named → isWithdrawn a ≡ true
+        → drop j (outcomes o cs) ≡ a ∷ others → OnShelf (steps o (current o (take j cs)) (take j cs)) named → isWithdrawn a ≡ true
     -- Its answer is the very bin that the command it names was answered.
     pub same-bin : (j named bin free : ℕ) (later : List Command) (others : List Outcome) → drop j cs ≡ Withdraw named ∷ later
-        → drop j (outcomes o cs) ≡ Withdrawn bin free ∷ others → ShelvedIn (take j (run o cs)) named bin
-    -- "The B2 count never goes back": it is of all items accepted, whatever became of them.
-    pub b2-count : (j : ℕ) → packing o (take j cs) .b2s ≡ total (map (λ s. countB2 (sizeClass (o .capacity) s)) (acceptedSizes o (take j cs)))
-    -- "An emptied cartridge stays opened, keeps its number and class": the classes by number are those of before, and then some.
-    pub classes-stay : (i j : ℕ) → take (opened (packing o (take i cs))) (classesOf (packing o (take (i + j) cs))) ≡ classesOf (packing o (take i cs))
+        → drop j (outcomes o cs) ≡ Withdrawn bin free ∷ others → ShelvedIn (steps o (current o (take j cs)) (take j cs)) named bin
 
   -- The answers to the first j commands depend on the opening and those j alone.
   abbrev pub Prefix : Type 0
@@ -138,32 +161,31 @@ module _ (o : Opening) (cs : List Command) where
   -- The commands that are kept, each naming the item that it named, are answered as they were, and leave the items as they lay, under their new numbers.
   pub record SameWithout (kept : Step → Bool) : Type 0 where
     pub same-outcomes : outcomes o (resent kept (run o cs)) ≡ outcomesKept kept (run o cs)
-    pub same-packing : packing o (resent kept (run o cs)) ≡ renumbered (newNumber kept (run o cs)) (packing o cs)
-    pub same-shelved : stillShelved o (resent kept (run o cs)) ≡ map (renumberedShelved (newNumber kept (run o cs))) (stillShelved o cs)
+    pub same-shelf : shelf o (resent kept (run o cs)) ≡ renumberedShelf (newNumber kept (run o cs)) (shelf o cs)
+    pub same-shelved : (q : Production) → stillShelved o q (resent kept (run o cs)) ≡ map (renumberedShelved (newNumber kept (run o cs))) (stillShelved o q cs)
 
-  -- So it is if the refused commands had not been sent; and if the accepted items and withdrawals alone had been sent.
+  -- So it is if the refused commands had not been sent; and if the accepted items and withdrawals alone had been sent, and the commands 05.
   pub record RefusedLeftOut : Type 0 where
     pub refused : SameWithout notRefused
     pub alone : SameWithout changes
 
-  -- After each command every bin number answered by then is from 1 to the number opened, which is at most the stock.
-  pub record AnswersInRange : Type 0 where
-    pub named : (j bin : ℕ) → List·Memᴰ bin (flatten (map binsNamed (outcomes o (take j cs)))) → (1 ≤ bin) × (bin ≤ numberOpened o (take j cs))
-    pub to-stock : numberOpened o cs ≤ o .stock
-
-  -- A count answered equals the number opened there, and so does, after the last command, the total returned. "Opened ones have no gaps among them":
-  -- after each command a number was answered to an accepted item exactly if it is from 1 to the number opened.
+  -- A count answered equals the number opened there by its production; after the last command, the total returned is of both, and both together are at
+  -- most the stock.
   pub record Counts : Type 0 where
-    pub bins : opened (packing o cs) ≡ numberOpened o cs
-    pub no-gaps : (j n : ℕ) → (any (λ e. e .bin =? n) (placements o (take j cs)) ≡ true) ↔ ((1 ≤ n) × (n ≤ numberOpened o (take j cs)))
-    pub answered : (j : ℕ) (later : List Command) → drop j cs ≡ Count ∷ later → take 1 (drop j (map word (outcomes o cs))) ≡ numberOpened o (take j cs) ∷ []
-    pub returned : streamGives (result (accepted o cs)) ≡ figures (length (shelvedSizes o cs) ∷ numberOpened o cs ∷ [])
+    pub answered : (j : ℕ) (later : List Command) → drop j cs ≡ Count ∷ later
+        → take 1 (drop j (map word (outcomes o cs))) ≡ numberOpened o (current o (take j cs)) (take j cs) ∷ []
+    pub returned : streamGives (result (accepted o cs))
+        ≡ figures ((length (shelvedSizes o First cs) + length (shelvedSizes o Second cs)) ∷ (numberOpened o First cs + numberOpened o Second cs) ∷ [])
+    pub to-stock : numberOpened o First cs + numberOpened o Second cs ≤ o .stock
 
-  -- After each command the walk over the places of the stock finds the number opened, and has read "the lesser of the stock and the figure plus one".
-  abbrev pub EarlyCount : Type 0
-  EarlyCount =
-      (j : ℕ) → walk (stockPlaces (o .stock) (packing o (take j cs) .bins))
-      ≡ record { figure = numberOpened o (take j cs); read = min (o .stock) (numberOpened o (take j cs) + 1) }
+  -- "A stream starts in 0"; 05 "makes the commands after it belong to that production", and "its answer is that byte"; after any other command the same
+  -- production is current. And a command leaves the packing of the other production as it is.
+  pub record Productions : Type 0 where
+    pub starts : current o [] ≡ First
+    pub goes : (j : ℕ) (r : Production) (later : List Command) → drop j cs ≡ Switch r ∷ later → current o (take (suc j) cs) ≡ r
+    pub stays : (j : ℕ) (c : Command) (later : List Command) → drop j cs ≡ c ∷ later → isSwitch c ≡ false → current o (take (suc j) cs) ≡ current o (take j cs)
+    pub switched : (j : ℕ) (r : Production) (later : List Command) → drop j cs ≡ Switch r ∷ later → take 1 (drop j (outcomes o cs)) ≡ Switched r ∷ []
+    pub other-stays : (j : ℕ) → packing o (other (current o (take j cs))) (take (suc j) cs) ≡ packing o (other (current o (take j cs))) (take j cs)
 
 -- Document 01's numbers give a result back: no two results share them.
 abbrev pub StreamGivesBack : Type 0
@@ -199,20 +221,20 @@ pub record OpenedAlike (s : List ℕ) (words : ℕ) : Type 0 where
   pub same-reading : verdict (withZeroTrailer s) words ≡ moved (verdict (withoutTrailer s) words)
   pub same-rows : (tells : Outcome → ℕ) (row : List ℕ) → rowAtExit tells (verdict (withZeroTrailer s) words) row ≡ rowAtExit tells (verdict (withoutTrailer s) words) row
 
--- A new bin is called for and the stock is spent: no permitted bin has space, and the whole stock is opened.
-pub record Spent (o : Opening) (p : Packing) (i : Item) (bare : ℕ) : Type 0 where
+-- A new bin is called for and the stock is spent: no permitted bin of the production has space, and "both together have opened it all".
+pub record Spent (o : Opening) (s : Shelf) (i : Item) (bare : ℕ) : Type 0 where
   pub some : 1 ≤ bare
   pub within-capacity : i .size ≤ o .capacity
-  pub no-space : (b : Bin) → List·Memᴰ b (p .bins) → permitted o (target o p i) b ≡ true → o .capacity < load b + i .size
-  pub all-opened : o .stock ≤ opened p
+  pub no-space : (b : Bin) → List·Memᴰ b (own s .bins) → permitted o (target o (own s) i) b ≡ true → o .capacity < load b + i .size
+  pub all-opened : o .stock ≤ opened (s .first) + opened (s .second)
 
 -- An item is refused in the order 8, 9, 10, each under exactly its condition: "refusal 8 goes by the bare size", 9 by the stored one, whatever the
 -- trailer is, and 10 comes where the stock is spent.
-pub record RefusedExactly (o : Opening) (p : Packing) (n s : ℕ) : Type 0 where
-  pub zero : (answerTo o p n (Shelve s) ≡ Refused SizeZero) ↔ (s ≡ 0)
-  pub above : (answerTo o p n (Shelve s) ≡ Refused AboveCapacity) ↔ ((1 ≤ s) × (o .capacity < s + o .trailer))
-  pub spent : (answerTo o p n (Shelve s) ≡ Refused StockSpent) ↔ Spent o p (item n (stored o s)) s
+pub record RefusedExactly (o : Opening) (s : Shelf) (n size : ℕ) : Type 0 where
+  pub zero : (answerOn o s n (Shelve size) ≡ Refused SizeZero) ↔ (size ≡ 0)
+  pub above : (answerOn o s n (Shelve size) ≡ Refused AboveCapacity) ↔ ((1 ≤ size) × (o .capacity < size + o .trailer))
+  pub spent : (answerOn o s n (Shelve size) ≡ Refused StockSpent) ↔ Spent o s (item n (stored o size)) size
 
 -- A refused command changes nothing.
-abbrev pub RefusedChangesNothing : Opening → Packing → (number : ℕ) → Command → Type 0
-RefusedChangesNothing o p n c = (reason : ItemReason) → answerTo o p n c ≡ Refused reason → next o p n c ≡ p
+abbrev pub RefusedChangesNothing : Opening → Shelf → (number : ℕ) → Command → Type 0
+RefusedChangesNothing o s n c = (reason : ItemReason) → answerOn o s n c ≡ Refused reason → nextShelf o s n c ≡ s

@@ -1,25 +1,25 @@
--- "What demand 3 compares", after a list of commands: the accepted items and the number opened on one side, the bins that a plan uses on the other. And
--- the shelf's own plan, which is of the items still shelved.
-use Rattle.packing.specs.Prelude.{ℕ, _+_, Bool, not, List, [], _∷_, map, greatest, any, keep, _=?_, if_then_else_, Opening, Command, Entry}
+-- "What demand 3 compares", after a list of commands and for one production: the accepted items and the number opened on one side, the bins that a plan
+-- uses on the other. And the production's own plan, which is of the items still shelved.
+use Rattle.packing.specs.Prelude.{ℕ, _+_, Bool, not, List, [], _∷_, map, greatest, any, keep, _=?_, if_then_else_, Opening, Production, Command, Entry}
 use Rattle.packing.specs.Refusals.{isWithdrawn}
-use Rattle.packing.specs.Run.{entryOf, outcomes, placements, stillShelved}
+use Rattle.packing.specs.Run.{entryOf, steps, placements, stillShelved}
 
-module _ (o : Opening) (cs : List Command) where
+module _ (o : Opening) (q : Production) (cs : List Command) where
   -- "The accepted masters": the stored sizes, in the stream's order, of the commands that shelve an item and are not refused.
   abbrev pub acceptedSizes : List ℕ
-  acceptedSizes = map (λ e. e .size) (placements o cs)
+  acceptedSizes = map (λ e. e .size) (placements o q cs)
 
   -- "The number opened": the greatest bin number answered to these items, or 0 if there are none.
   abbrev pub numberOpened : ℕ
-  numberOpened = greatest (map (λ e. e .bin) (placements o cs))
+  numberOpened = greatest (map (λ e. e .bin) (placements o q cs))
 
-  -- "The 5k + 15 figure is for streams without withdrawals": none that is accepted. A refused one takes nothing out.
+  -- "The 5k + 15 figure is for streams without withdrawals": none of this production that is accepted. A refused one takes nothing out.
   abbrev pub noneOut : Bool
-  noneOut = not (any isWithdrawn (outcomes o cs))
+  noneOut = not (any (λ t. isWithdrawn (t .outcome)) (steps o q cs))
 
   -- "The loads' sum and the shelf's plan are of masters still shelved": each with the bin that it was answered, in the order of their commands.
   abbrev pub shelfPlan : List Entry
-  shelfPlan = map entryOf (stillShelved o cs)
+  shelfPlan = map entryOf (stillShelved o q cs)
 
   abbrev pub shelvedSizes : List ℕ
   shelvedSizes = map (λ e. e .size) shelfPlan

@@ -1,22 +1,24 @@
 -- A run with some of its commands left out: "every other refused command is left out too, and one that names a master is taken to name the same one".
-use Rattle.packing.specs.Prelude.{ℕ, Bool, not, _||_, _&&_, List, map, length, keep, _≤?_, Command, Shelve, Count, Withdraw, Outcome}
-use Rattle.packing.specs.Refusals.{isRefused, isPlaced, isWithdrawn}
+use Rattle.packing.specs.Prelude.{ℕ, Bool, not, _||_, _&&_, List, map, length, keep, _≤?_, Command, Shelve, Count, Withdraw, Switch, Outcome}
+use Rattle.packing.specs.Refusals.{isRefused, isPlaced, isWithdrawn, isSwitched}
 use Rattle.packing.specs.Bins.{Item, Bin, Packing}
+use Rattle.packing.specs.Shelves.{Shelf}
 use Rattle.packing.specs.Run.{Shelved, Step}
 
 -- Those that are not refused.
 abbrev pub notRefused : Step → Bool
 notRefused t = not (isRefused (t .outcome))
 
--- Those that shelve an item or take one out: counts are left out too.
+-- Those that shelve an item, take one out or go to a production: counts are left out too.
 abbrev pub changes : Step → Bool
-changes t = isPlaced (t .outcome) || isWithdrawn (t .outcome)
+changes t = isPlaced (t .outcome) || isWithdrawn (t .outcome) || isSwitched (t .outcome)
 
 -- The command with the number that it names replaced.
 abbrev pub renamed : (ℕ → ℕ) → Command → Command
 renamed f (Shelve s) = Shelve s
 renamed f Count = Count
 renamed f (Withdraw named) = Withdraw (f named)
+renamed f (Switch r) = Switch r
 
 module _ (kept : Step → Bool) (ts : List Step) where
   -- The number that a command has when only these are kept: of so many up to it, it is the last.
@@ -30,7 +32,7 @@ module _ (kept : Step → Bool) (ts : List Step) where
   abbrev pub outcomesKept : List Outcome
   outcomesKept = map (λ t. t .outcome) (keep kept ts)
 
--- Items, and packings, under other command numbers: sizes, bins, classes and the B2 count are the same.
+-- Items, and both packings, under other command numbers: sizes, bins, classes and the B2 counts are the same.
 module _ (f : ℕ → ℕ) where
   abbrev pub renumber : Item → Item
   renumber i = record { command = f (i .command); size = i .size }
@@ -40,6 +42,9 @@ module _ (f : ℕ → ℕ) where
 
   abbrev pub renumbered : Packing → Packing
   renumbered p = record { bins = map renumberedBin (p .bins); b2s = p .b2s }
+
+  abbrev pub renumberedShelf : Shelf → Shelf
+  renumberedShelf s = record { first = renumbered (s .first); second = renumbered (s .second); current = s .current }
 
   abbrev pub renumberedShelved : Shelved → Shelved
   renumberedShelved s = record { item = renumber (s .item); bin = s .bin }

@@ -1,6 +1,6 @@
 -- The two openings beside each other: a stream that begins with 01, and the same with 11 and a trailer of 0 in its place; commands under a trailer, and
 -- the same without one, by their stored sizes.
-use Rattle.packing.specs.Prelude.{ℕ, zero, suc, _+_, List, _∷_, _++_, take, drop, _=?_, if_then_else_, Opening, Command, Shelve, Count, Withdraw}
+use Rattle.packing.specs.Prelude.{ℕ, zero, suc, _+_, List, _∷_, _++_, take, drop, _=?_, if_then_else_, Opening, Command, Shelve, Count, Withdraw, Switch}
 use Rattle.packing.specs.Bins.{stored}
 use Rattle.packing.specs.Streams.{openingWidth, Read, accepted, refused}
 
@@ -31,3 +31,4 @@ abbrev pub byStored : Opening → Command → Command
 byStored o (Shelve size) = Shelve (if size =? 0 then 0 else stored o size)
 byStored o Count = Count
 byStored o (Withdraw named) = Withdraw named
+byStored o (Switch r) = Switch r

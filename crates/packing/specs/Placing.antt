@@ -56,16 +56,16 @@ module _ (o : Opening) where
     abbrev pub binFor : ℕ
     binFor = suc (firstFit takes (p .bins))
 
-    -- A new bin is called for, and the stock is all opened.
-    abbrev pub spent : Bool
-    spent = (opened p <? binFor) && (o .stock ≤? opened p)
+    -- A new bin is called for, and what is left of the stock for this packing is all opened.
+    abbrev pub spent : (left : ℕ) → Bool
+    spent left = (opened p <? binFor) && (left ≤? opened p)
 
     -- For one item the order is 8, 9, 10. "Refusal 8 goes by the bare size", 9 and all that follows by the stored one.
-    unfoldable pub decision : (bare : ℕ) → Decision
-    decision bare =
+    unfoldable pub decision : (left bare : ℕ) → Decision
+    decision left bare =
         if bare =? 0 then refusing SizeZero else
         if o .capacity <? i .size then refusing AboveCapacity else
-        if spent then refusing StockSpent else
+        if spent left then refusing StockSpent else
         into binFor
 
     -- An accepted B2 is counted, in whichever class it lies.

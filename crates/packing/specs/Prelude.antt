@@ -7,15 +7,16 @@ pub use mathlib.Core.Option.{Option, none, some}
 pub use mathlib.Core.List.{List, [], _∷_, _++_, map, foldl, reverse, List·Memᴰ}
 unfoldable pub use mathlib.Core.List.{zipWith, flatten}
 pub use lib.ListN.{length, take, drop, replicate, getD}
-pub use Rattle.packing.specs.declared.{Opening.Opening, SizeClass.SizeClass, PerClass.PerClass, Command.Command, WidthRow.WidthRow, Width.Width}
+pub use Rattle.packing.specs.declared.{Opening.Opening, SizeClass.SizeClass, PerClass.PerClass, Production.Production, Command.Command, WidthRow.WidthRow, Width.Width}
 pub use Rattle.packing.specs.declared.{ItemReason.ItemReason, Outcome.Outcome, Answer.Answer, Tally.Tally, StreamReason.StreamReason, StreamResult.StreamResult}
 pub use Rattle.packing.specs.declared.{Entry.Entry, PlanReason.PlanReason, PlanResult.PlanResult}
 pub use Rattle.packing.specs.declared.SizeClass.the-variants.{A, B1, B2, X}
-pub use Rattle.packing.specs.declared.Command.the-variants.{Shelve, Count, Withdraw}
+pub use Rattle.packing.specs.declared.Production.the-variants.{First, Second}
+pub use Rattle.packing.specs.declared.Command.the-variants.{Shelve, Count, Withdraw, Switch}
 pub use Rattle.packing.specs.declared.Width.the-variants.{Known, Unknown}
-pub use Rattle.packing.specs.declared.Outcome.the-variants.{Placed, Counted, Withdrawn, Refused}
+pub use Rattle.packing.specs.declared.Outcome.the-variants.{Placed, Counted, Withdrawn, Switched, Refused}
 pub use Rattle.packing.specs.declared.ItemReason.the-variants.{SizeZero, AboveCapacity, StockSpent, NotShelved}
-pub use Rattle.packing.specs.declared.StreamReason.the-variants.{NoOpening, UnknownOpcode, CutShort, SecondOpening, OutsideLimits, TooManyCommands, TooFewWords}
+pub use Rattle.packing.specs.declared.StreamReason.the-variants.{NoOpening, UnknownOpcode, CutShort, SecondOpening, OutsideLimits, TooManyCommands, TooFewWords, NoProduction}
 pub use Rattle.packing.specs.declared.PlanReason.the-variants.{CapacityOutside, TooLong, SizeOutside, BinOutside, Overfull, OtherItems}
 use lib.Dec.{eqb, leb, ltb}
 

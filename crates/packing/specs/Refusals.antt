@@ -1,8 +1,9 @@
 -- "What a refusal gives": the number of each refusal, the answer word of an outcome, and what a result gives in document 01's numbers.
-use Rattle.packing.specs.Prelude.{ℕ, _+_, _-_, Bool, true, false, List, [], _∷_, _=?_, _<?_, if_then_else_, Command, Shelve, Count, Withdraw, StreamResult, PlanResult}
-use Rattle.packing.specs.Prelude.{Outcome, Placed, Counted, Withdrawn, Refused, ItemReason, SizeZero, AboveCapacity, StockSpent, NotShelved}
-use Rattle.packing.specs.Prelude.{StreamReason, NoOpening, UnknownOpcode, CutShort, SecondOpening, OutsideLimits, TooManyCommands, TooFewWords}
+use Rattle.packing.specs.Prelude.{ℕ, _+_, _-_, Bool, true, false, List, [], _∷_, _=?_, _<?_, if_then_else_, Command, Shelve, Count, Withdraw, Switch, StreamResult, PlanResult}
+use Rattle.packing.specs.Prelude.{Outcome, Placed, Counted, Withdrawn, Switched, Refused, ItemReason, SizeZero, AboveCapacity, StockSpent, NotShelved}
+use Rattle.packing.specs.Prelude.{StreamReason, NoOpening, UnknownOpcode, CutShort, SecondOpening, OutsideLimits, TooManyCommands, TooFewWords, NoProduction}
 use Rattle.packing.specs.Prelude.{PlanReason, CapacityOutside, TooLong, SizeOutside, BinOutside, Overfull, OtherItems}
+use Rattle.packing.specs.Productions.{productionNumber, productionOf}
 
 abbrev pub streamNumber : StreamReason → ℕ
 streamNumber NoOpening = 1
@@ -12,6 +13,7 @@ streamNumber SecondOpening = 4
 streamNumber OutsideLimits = 5
 streamNumber TooManyCommands = 6
 streamNumber TooFewWords = 7
+streamNumber NoProduction = 18
 
 abbrev pub itemNumber : ItemReason → ℕ
 itemNumber SizeZero = 8
@@ -31,40 +33,54 @@ abbrev pub isRefused : Outcome → Bool
 isRefused (Placed bin free) = false
 isRefused (Counted opened) = false
 isRefused (Withdrawn bin free) = false
+isRefused (Switched r) = false
 isRefused (Refused reason) = true
 
 abbrev pub isPlaced : Outcome → Bool
 isPlaced (Placed bin free) = true
 isPlaced (Counted opened) = false
 isPlaced (Withdrawn bin free) = false
+isPlaced (Switched r) = false
 isPlaced (Refused reason) = false
 
 abbrev pub isWithdrawn : Outcome → Bool
 isWithdrawn (Placed bin free) = false
 isWithdrawn (Counted opened) = false
 isWithdrawn (Withdrawn bin free) = true
+isWithdrawn (Switched r) = false
 isWithdrawn (Refused reason) = false
+
+abbrev pub isSwitched : Outcome → Bool
+isSwitched (Placed bin free) = false
+isSwitched (Counted opened) = false
+isSwitched (Withdrawn bin free) = false
+isSwitched (Switched r) = true
+isSwitched (Refused reason) = false
 
 -- The numbers of the bins that an answer names: one, if an item went there or left it.
 abbrev pub binsNamed : Outcome → List ℕ
 binsNamed (Placed bin free) = bin ∷ []
 binsNamed (Counted opened) = []
 binsNamed (Withdrawn bin free) = bin ∷ []
+binsNamed (Switched r) = []
 binsNamed (Refused reason) = []
 
--- "Word n holds the cartridge number or the count for command n, or 32,768 plus the refusal number." A withdrawal "answers the cartridge it left".
+-- "Word n holds the cartridge number or the count for command n, or 32,768 plus the refusal number." A withdrawal "answers the cartridge it left"; of
+-- 05 the "answer is that byte".
 abbrev pub word : Outcome → ℕ
 word (Placed bin free) = bin
 word (Counted opened) = opened
 word (Withdrawn bin free) = bin
+word (Switched r) = productionNumber r
 word (Refused reason) = 32_768 + itemNumber reason
 
 -- "Each answer carries the free units left on the named cartridge just after the master, and 0 for counted or refused"; for a withdrawal "the second
--- row gives the free units left on that cartridge".
+-- row gives the free units left on that cartridge"; and 05 has "0 in the second row".
 abbrev pub freeUnits : Outcome → ℕ
 freeUnits (Placed bin free) = free
 freeUnits (Counted opened) = 0
 freeUnits (Withdrawn bin free) = free
+freeUnits (Switched r) = 0
 freeUnits (Refused reason) = 0
 
 -- The refusal of a command that has this number.
@@ -76,13 +92,15 @@ abbrev pub outcomeOf : Command → (word free : ℕ) → Outcome
 outcomeOf (Shelve size) w free = if w <? 32_768 then Placed w free else Refused (itemReason (w - 32_768))
 outcomeOf Count w free = Counted w
 outcomeOf (Withdraw named) w free = if w <? 32_768 then Withdrawn w free else Refused (itemReason (w - 32_768))
+outcomeOf (Switch r) w free = Switched (productionOf w)
 
 -- What a call returns, in document 01's numbers: its figures; or the number of a refusal, with its offset or its place.
 pub data Returned : Type 0 where
   figures : List ℕ → Returned
   refusal : (number place : ℕ) → Returned
 
--- "An accepted stream returns the masters accepted and the cartridges opened": of the masters "those returned … are of masters still shelved".
+-- "An accepted stream returns the masters accepted and the cartridges opened": of the masters "those returned … are of masters still shelved", and they
+-- "total both" productions.
 abbrev pub streamGives : StreamResult → Returned
 streamGives (StreamResult.Accepted items opened) = figures (items ∷ opened ∷ [])
 streamGives (StreamResult.Refused reason offset) = refusal (streamNumber reason) offset

@@ -1,10 +1,13 @@
--- What an accepted stream does: each command gets the packing that the one before it left, the first the empty one.
-use Rattle.packing.specs.Prelude.{ℕ, suc, not, List, [], _∷_, _++_, map, foldl, flatten, length, drop, keep, if_then_else_}
-use Rattle.packing.specs.Prelude.{Opening, Command, Shelve, Count, Withdraw, Outcome, Placed, Counted, Withdrawn, Refused, Answer, Entry, StreamResult}
+-- What an accepted stream does: each command gets the shelf that the one before it left, the first the empty one, and works on its production's packing.
+use Rattle.packing.specs.Prelude.{ℕ, suc, _+_, true, false, not, List, [], _∷_, _++_, map, foldl, flatten, length, drop, keep, if_then_else_}
+use Rattle.packing.specs.Prelude.{Opening, Production, First, Second, Command, Shelve, Count, Withdraw, Switch}
+use Rattle.packing.specs.Prelude.{Outcome, Placed, Counted, Withdrawn, Switched, Refused, Answer, Entry, StreamResult}
+use Rattle.packing.specs.Productions.{isSame}
 use Rattle.packing.specs.Refusals.{isRefused}
-use Rattle.packing.specs.Bins.{Item, Packing, empty, opened, freeOn, stored}
+use Rattle.packing.specs.Bins.{Item, Packing, opened, freeOn, stored}
 use Rattle.packing.specs.Placing.{Decision, into, refusing, decision, placed}
 use Rattle.packing.specs.Withdrawing.{isNamed, without, withdrawal}
+use Rattle.packing.specs.Shelves.{Shelf, emptyShelf, of, own, stockLeft, putBack, belonging}
 use Rattle.packing.specs.Streams.{Read, accepted, refused}
 
 -- The item that the command of this number shelves, by its stored size.
@@ -16,47 +19,60 @@ abbrev pub told : Opening → Packing → Decision → Outcome
 told o p (into bin) = Placed bin (freeOn o bin p)
 told o p (refusing reason) = Refused reason
 
--- One command of the run: its number from 1, the packing that it gets, and what it comes to.
+-- One command of the run: its number from 1, the production that it belongs to and that one's packing, which it gets, and what it comes to.
 pub record Step : Type 0 where
   pub number : ℕ
+  pub production : Production
   pub command : Command
   pub before : Packing
   pub outcome : Outcome
 
 module _ (o : Opening) where
-  abbrev pub answerTo : Packing → (number : ℕ) → Command → Outcome
-  answerTo p n (Shelve s) = told o (placed o p (item n (stored o s))) (decision o p (item n (stored o s)) s)
-  answerTo p n Count = Counted (opened p)
-  answerTo p n (Withdraw named) = withdrawal o p named
+  -- In one production's packing, for which so much of the stock is left.
+  abbrev pub answerTo : (left : ℕ) → Packing → (number : ℕ) → Command → Outcome
+  answerTo left p n (Shelve s) = told o (placed o p (item n (stored o s))) (decision o p (item n (stored o s)) left s)
+  answerTo left p n Count = Counted (opened p)
+  answerTo left p n (Withdraw named) = withdrawal o p named
+  answerTo left p n (Switch r) = Switched r
 
-  -- What a command does, if it is not refused.
+  -- What a command does to its production, if it is not refused.
   abbrev pub done : Packing → (number : ℕ) → Command → Packing
   done p n (Shelve s) = placed o p (item n (stored o s))
   done p n Count = p
   done p n (Withdraw named) = without named p
+  done p n (Switch r) = p
 
   -- A refused command changes nothing: loads, classes and the B2 count are as they were.
-  abbrev pub next : Packing → (number : ℕ) → Command → Packing
-  next p n c = if isRefused (answerTo p n c) then p else done p n c
+  abbrev pub next : (left : ℕ) → Packing → (number : ℕ) → Command → Packing
+  next left p n c = if isRefused (answerTo left p n c) then p else done p n c
 
-  unfoldable pub runFrom : Packing → (number : ℕ) → List Command → List Step
-  runFrom p n [] = []
-  runFrom p n (c ∷ cs) = record { number = n; command = c; before = p; outcome = answerTo p n c } ∷ runFrom (next p n c) (suc n) cs
+  -- On the shelf a command is answered by its production, and leaves the other as it is.
+  abbrev pub answerOn : Shelf → (number : ℕ) → Command → Outcome
+  answerOn s n c = answerTo (stockLeft o s) (own s) n c
 
-  unfoldable pub packingFrom : Packing → (number : ℕ) → List Command → Packing
-  packingFrom p n [] = p
-  packingFrom p n (c ∷ cs) = packingFrom (next p n c) (suc n) cs
+  abbrev pub nextShelf : Shelf → (number : ℕ) → Command → Shelf
+  nextShelf s n c = putBack (s .current) (next (stockLeft o s) (own s) n c) s (belonging (s .current) c)
+
+  unfoldable pub runFrom : Shelf → (number : ℕ) → List Command → List Step
+  runFrom s n [] = []
+  runFrom s n (c ∷ cs) = record { number = n; production = s .current; command = c; before = own s; outcome = answerOn s n c } ∷ runFrom (nextShelf s n c) (suc n) cs
+
+  unfoldable pub shelfFrom : Shelf → (number : ℕ) → List Command → Shelf
+  shelfFrom s n [] = s
+  shelfFrom s n (c ∷ cs) = shelfFrom (nextShelf s n c) (suc n) cs
 
 -- The bare size that a command shelves an item by, and the number that it names one by.
 abbrev pub sizeOf : Command → ℕ
 sizeOf (Shelve s) = s
 sizeOf Count = 0
 sizeOf (Withdraw named) = 0
+sizeOf (Switch r) = 0
 
 abbrev pub nameOf : Command → ℕ
 nameOf (Shelve s) = 0
 nameOf Count = 0
 nameOf (Withdraw named) = named
+nameOf (Switch r) = 0
 
 -- An item on the shelf, as the answers tell of it: with the bin that it was answered.
 pub record Shelved : Type 0 where
@@ -66,9 +82,17 @@ pub record Shelved : Type 0 where
 abbrev pub entryOf : Shelved → Entry
 entryOf s = record { size = s .item .size; bin = s .bin }
 
--- The commands after the opening are numbered from 1; an answer joins the command's number with placed, counted, withdrawn or refused.
+-- The commands after the opening are numbered from 1; an answer joins the command's number with placed, counted, withdrawn, switched or refused.
 abbrev pub answerOf : Step → Answer
 answerOf t = record { number = t .number; outcome = t .outcome }
+
+-- The steps of one production, 05 with those before it. (An `elim`, not `keep`: the checker computes what is kept once.)
+unfoldable pub stepsOf : Production → List Step → List Step
+stepsOf q [] = []
+stepsOf q (t ∷ ts) = elim (isSame q (t .production)) [
+  | true ↦ t ∷ stepsOf q ts
+  | false ↦ stepsOf q ts
+]
 
 module _ (o : Opening) where
   -- A command that shelves an item and is not refused gives its stored size and its bin.
@@ -76,6 +100,7 @@ module _ (o : Opening) where
   placement c (Placed bin free) = record { size = stored o (sizeOf c); bin = bin } ∷ []
   placement c (Counted opened) = []
   placement c (Withdrawn bin free) = []
+  placement c (Switched r) = []
   placement c (Refused reason) = []
 
   -- What the answer to a command makes of the items on the shelf: one that is placed joins them as the last, and the one that is taken out leaves them.
@@ -83,6 +108,7 @@ module _ (o : Opening) where
   shelving n c (Placed bin free) on = on ++ record { item = item n (stored o (sizeOf c)); bin = bin } ∷ []
   shelving n c (Counted opened) on = on
   shelving n c (Withdrawn bin free) on = keep (λ s. not (isNamed (nameOf c) (s .item))) on
+  shelving n c (Switched r) on = on
   shelving n c (Refused reason) on = on
 
   -- Of some steps: the accepted items, each with its bin, whatever became of them.
@@ -93,10 +119,10 @@ module _ (o : Opening) where
   abbrev pub shelvedBy : List Step → List Shelved → List Shelved
   shelvedBy ts on = foldl (λ before t. shelving (t .number) (t .command) (t .outcome) before) on ts
 
--- After the commands cs: the run, and what is read off it: the answers, the accepted items and those still shelved, in the stream's order. And the packing.
+-- After the commands cs: the run, and what is read off it: the answers. And the shelf, with the production that the next command belongs to.
 module _ (o : Opening) (cs : List Command) where
   abbrev pub run : List Step
-  run = runFrom o empty 1 cs
+  run = runFrom o emptyShelf 1 cs
 
   abbrev pub outcomes : List Outcome
   outcomes = map (λ t. t .outcome) run
@@ -104,18 +130,32 @@ module _ (o : Opening) (cs : List Command) where
   abbrev pub answers : List Answer
   answers = map answerOf run
 
+  abbrev pub shelf : Shelf
+  shelf = shelfFrom o emptyShelf 1 cs
+
+  abbrev pub current : Production
+  current = shelf .current
+
+-- Of one production: its steps; its accepted items and those still shelved, in the stream's order; its packing.
+module _ (o : Opening) (q : Production) (cs : List Command) where
+  abbrev pub steps : List Step
+  steps = stepsOf q (run o cs)
+
   abbrev pub placements : List Entry
-  placements = entriesOf o run
+  placements = entriesOf o steps
 
   abbrev pub stillShelved : List Shelved
-  stillShelved = shelvedBy o run []
+  stillShelved = shelvedBy o steps []
 
   abbrev pub packing : Packing
-  packing = packingFrom o empty 1 cs
+  packing = of q (shelf o cs)
 
--- What the call returns: the items still shelved and the bins opened, or the refusal.
+-- What the call returns: the items still shelved and the bins opened, of both productions, or the refusal.
 abbrev pub result : Read → StreamResult
-result (accepted o cs) = StreamResult.Accepted (length (stillShelved o cs)) (opened (packing o cs))
+result (accepted o cs) =
+    StreamResult.Accepted
+    (length (stillShelved o First cs) + length (stillShelved o Second cs))
+    (opened (packing o First cs) + opened (packing o Second cs))
 result (refused reason offset) = StreamResult.Refused reason offset
 
 -- A row at exit, by what it tells of an outcome: the answer row by `word`, the row of free units by `freeUnits`. Word n is of command n, and words past

@@ -1,8 +1,9 @@
 -- "Command streams": a row of bytes is read as an opening and the commands after it, or refused.
-use Rattle.packing.specs.Prelude.{ℕ, zero, suc, _+_, _*_, min, _≡_, Bool, not, _||_, List, [], _∷_, foldl, length, take, drop, getD, _=?_, _<?_, if_then_else_}
-use Rattle.packing.specs.Prelude.{Opening, Command, Shelve, Count, Withdraw, WidthRow, Width, Known, Unknown}
-use Rattle.packing.specs.Prelude.{StreamReason, NoOpening, UnknownOpcode, CutShort, SecondOpening, OutsideLimits, TooManyCommands, TooFewWords}
+use Rattle.packing.specs.Prelude.{ℕ, zero, suc, _+_, _*_, min, _≡_, Bool, not, _||_, _&&_, List, [], _∷_, foldl, length, take, drop, getD, _=?_, _<?_, if_then_else_}
+use Rattle.packing.specs.Prelude.{Opening, Command, Shelve, Count, Withdraw, Switch, WidthRow, Width, Known, Unknown}
+use Rattle.packing.specs.Prelude.{StreamReason, NoOpening, UnknownOpcode, CutShort, SecondOpening, OutsideLimits, TooManyCommands, TooFewWords, NoProduction}
 use Rattle.packing.specs.Limits.{openingGood, mostCommands}
+use Rattle.packing.specs.Productions.{productionOf}
 
 -- "Either opening may start a stream, once."
 abbrev pub isOpening : (opcode : ℕ) → Bool
@@ -30,6 +31,7 @@ widths =
     record { opcode = 0x02; width = 4 } ∷
     record { opcode = 0x03; width = 0 } ∷
     record { opcode = 0x04; width = 2 } ∷
+    record { opcode = 0x05; width = 1 } ∷
     record { opcode = 0x11; width = openingWidth 0x11 } ∷
     []
 
@@ -47,19 +49,28 @@ openingOf b s = record { capacity = operand 0 4 s; stock = operand 4 2 s; m = op
 
 -- the command of an opcode that is in the table and is no opening
 abbrev pub commandOf : ℕ → List ℕ → Command
-commandOf b s = if b =? 0x02 then Shelve (operand 0 4 s) else if b =? 0x04 then Withdraw (operand 0 2 s) else Count
+commandOf b s =
+    if b =? 0x02 then Shelve (operand 0 4 s) else
+    if b =? 0x04 then Withdraw (operand 0 2 s) else
+    if b =? 0x05 then Switch (productionOf (operand 0 1 s)) else
+    Count
+
+-- "18 … for a byte above 1": 05 names no production.
+abbrev pub namesNone : ℕ → List ℕ → Bool
+namesNone b s = (b =? 0x05) && (1 <? operand 0 1 s)
 
 -- What stands at the front of a stream after the opening: a whole command and its operand width, or a fault.
 pub data Front : Type 0 where
   whole : Command → ℕ → Front
   faulty : StreamReason → Front
 
--- For byte b with s behind it the order is 2, 4, 3.
+-- For byte b with s behind it the order is 2, 4, 3, 18.
 abbrev pub front : (b : ℕ) (s : List ℕ) → Width → Front
 front b s Unknown = faulty UnknownOpcode
 front b s (Known width) =
     if isOpening b then faulty SecondOpening else
     if length s <? width then faulty CutShort else
+    if namesNone b s then faulty NoProduction else
     whole (commandOf b s) width
 
 -- The front of a stream that is not empty. (Of an empty one it is never asked; it has no whole command.)

@@ -1,13 +1,14 @@
 -- "Worked shelves": the cases marked ● make one table, proved together by one theorem that computes over it.
 use Rattle.packing.specs.Prelude.{ℕ, _+_, _*_, _≡_, refl, Bool, true, false, List, [], _∷_, _++_, map, zipWith, flatten, take, drop, replicate, total, greatest, any, keep, _≤?_}
-use Rattle.packing.specs.Prelude.{Opening, SizeClass, A, B1, B2, X, Command, Shelve, Count, Withdraw, StreamResult, CutShort, SecondOpening, TooFewWords, PlanResult, Overfull}
+use Rattle.packing.specs.Prelude.{Opening, SizeClass, A, B1, B2, X, First, Second, Command, Shelve, Count, Withdraw, Switch, StreamResult, PlanResult, Overfull}
+use Rattle.packing.specs.Prelude.{CutShort, SecondOpening, TooFewWords, NoProduction}
 use Rattle.packing.specs.Refusals.{word, freeUnits}
 use Rattle.packing.specs.SizeClasses.{sizeClass}
 use Rattle.packing.specs.Placing.{firstFit, put, decision, placed}
 use Rattle.packing.specs.Streams.{widths, lookup, commands, read, verdict}
 use Rattle.packing.specs.Openings.{withZeroTrailer}
 use Rattle.packing.specs.Withdrawing.{without, withdrawal}
-use Rattle.packing.specs.Run.{runFrom, packingFrom, packing, outcomes, result, rowAtExit}
+use Rattle.packing.specs.Run.{runFrom, shelfFrom, stepsOf, packing, outcomes, result, rowAtExit}
 use Rattle.packing.specs.Counting.{stockPlaces, walk}
 use Rattle.packing.specs.Plans.{planOf, limits, fault, entries, check}
 use Rattle.packing.specs.Compared.{numberOpened, shelfPlan, shelvedSizes, used}
@@ -51,7 +52,7 @@ storing c trailer sizes = bothRows (trailed c trailer) (map Shelve sizes)
 
 -- What a count hands back after these sizes at capacity 60: the figure, and the places read.
 abbrev pub counted : (stock : ℕ) → List ℕ → Finding
-counted stock sizes = let t = walk (stockPlaces stock (packing (opening 60 stock) (map Shelve sizes) .bins)) in words (t .figure ∷ t .read ∷ [])
+counted stock sizes = let t = walk (stockPlaces stock (packing (opening 60 stock) First (map Shelve sizes) .bins)) in words (t .figure ∷ t .read ∷ [])
 
 abbrev pub planned : (capacity k : ℕ) (sizes bins : List ℕ) → Finding
 planned c k sizes bins = checked (check c k (planOf sizes bins) sizes)
@@ -87,6 +88,14 @@ sampleTrailed = withZeroTrailer (drop 1 sample)
 abbrev pub trailer258 : List ℕ
 trailer258 = 0x11 ∷ 0 ∷ 0 ∷ 4 ∷ 0 ∷ 0 ∷ 4 ∷ 6 ∷ 1 ∷ 2 ∷ 0x02 ∷ 0 ∷ 0 ∷ 0 ∷ 1 ∷ []
 
+-- An opening with capacity 60 and a stock of 4, and these bytes behind it.
+abbrev pub behind : List ℕ → List ℕ
+behind bytes = 0x01 ∷ 0 ∷ 0 ∷ 0 ∷ 60 ∷ 0 ∷ 4 ∷ 6 ∷ bytes
+
+-- What such a stream returns where as many words are lent as it can want.
+abbrev pub returns : (bytes : List ℕ) → Finding
+returns bytes = returned (result (verdict (behind bytes) 12))
+
 unfoldable pub table : List (Finding × Finding)
 table =
     classes (map (sizeClass 60) (20 ∷ 21 ∷ 24 ∷ 25 ∷ 30 ∷ 31 ∷ [])) is classes (X ∷ B2 ∷ B2 ∷ B1 ∷ B1 ∷ A ∷ []) ∷
@@ -99,9 +108,9 @@ table =
     planned 60 0 [] [] is checked PlanResult.Passed ∷
     shelved 262144 512 theorem1 is words (1 ∷ 1 ∷ 1 ∷ 2 ∷ 2 ∷ 2 ∷ 3 ∷ 3 ∷ 3 ∷ 4 ∷ 4 ∷ 4 ∷ 5 ∷ 6 ∷ 7 ∷ 8 ∷ 9 ∷ 10 ∷ 11 ∷ 1 ∷ 12 ∷ []) ∷
     planned 262144 7 theorem1 seven is checked PlanResult.Passed ∷
-    figure (3 * numberOpened (opening 262144 512) (map Shelve theorem1)) is figure 36 ∷
+    figure (3 * numberOpened (opening 262144 512) First (map Shelve theorem1)) is figure 36 ∷
     figure (5 * used (planOf theorem1 seven) + 15) is figure 50 ∷
-    holds (3 * numberOpened (opening 262144 512) (map Shelve theorem1) ≤? 5 * used (planOf theorem1 seven) + 15) is holds true ∷
+    holds (3 * numberOpened (opening 262144 512) First (map Shelve theorem1) ≤? 5 * used (planOf theorem1 seven) + 15) is holds true ∷
     -- Beyond the ●: every B2 counts towards m, an m-th B2 joins no lone B2, and a refused B2 is not counted.
     shelved 60 512 (replicate 12 22) is words (1 ∷ 1 ∷ 2 ∷ 2 ∷ 3 ∷ 4 ∷ 3 ∷ 5 ∷ 5 ∷ 6 ∷ 6 ∷ 7 ∷ []) ∷
     shelved 60 2 (31 ∷ 31 ∷ replicate 6 22) is words (1 ∷ 2 ∷ replicate 6 32_778) ∷
@@ -121,14 +130,14 @@ table =
     -- A stock that is spent stays so when its bin is emptied, which takes only items of its class.
     answered 1 (Shelve 60 ∷ Shelve 60 ∷ Withdraw 1 ∷ Shelve 20 ∷ Shelve 60 ∷ Count ∷ []) is words (1 ∷ 32_778 ∷ 1 ∷ 32_778 ∷ 1 ∷ 1 ∷ 0 ∷ 0 ∷ 60 ∷ 0 ∷ 0 ∷ 0 ∷ []) ∷
     -- Why the figure of demand 3 is for streams without withdrawals: the shelf's own plan uses one bin of seven, and passes.
-    checked (check 60 7 (shelfPlan (opening 60 512) recalled) (shelvedSizes (opening 60 512) recalled)) is checked PlanResult.Passed ∷
-    figure (3 * numberOpened (opening 60 512) recalled) is figure 21 ∷
-    figure (5 * used (shelfPlan (opening 60 512) recalled) + 15) is figure 20 ∷
-    holds (3 * numberOpened (opening 60 512) recalled ≤? 5 * used (shelfPlan (opening 60 512) recalled) + 15) is holds false ∷
+    checked (check 60 7 (shelfPlan (opening 60 512) First recalled) (shelvedSizes (opening 60 512) First recalled)) is checked PlanResult.Passed ∷
+    figure (3 * numberOpened (opening 60 512) First recalled) is figure 21 ∷
+    figure (5 * used (shelfPlan (opening 60 512) First recalled) + 15) is figure 20 ∷
+    holds (3 * numberOpened (opening 60 512) First recalled ≤? 5 * used (shelfPlan (opening 60 512) First recalled) + 15) is holds false ∷
     -- A trailer: class, load, free units and 9 go by the stored size, 8 by the bare one.
     storing 60 3 (57 ∷ 58 ∷ 0 ∷ 18 ∷ 17 ∷ 22 ∷ 27 ∷ 28 ∷ [])
     is words (1 ∷ 32_777 ∷ 32_776 ∷ 2 ∷ 3 ∷ 4 ∷ 4 ∷ 5 ∷ 0 ∷ 0 ∷ 0 ∷ 39 ∷ 40 ∷ 35 ∷ 5 ∷ 29 ∷ []) ∷
-    words (shelvedSizes (trailed 60 3) (map Shelve (57 ∷ 58 ∷ 0 ∷ 18 ∷ 17 ∷ []))) is words (60 ∷ 21 ∷ 20 ∷ []) ∷
+    words (shelvedSizes (trailed 60 3) First (map Shelve (57 ∷ 58 ∷ 0 ∷ 18 ∷ 17 ∷ []))) is words (60 ∷ 21 ∷ 20 ∷ []) ∷
     -- One that leaves a unit of the capacity, none, and less than none.
     storing 60 59 (0 ∷ 1 ∷ 2 ∷ []) is words (32_776 ∷ 1 ∷ 32_777 ∷ 0 ∷ 0 ∷ 0 ∷ []) ∷
     storing 60 60 (0 ∷ 1 ∷ []) is words (32_776 ∷ 32_777 ∷ 0 ∷ 0 ∷ []) ∷
@@ -142,6 +151,33 @@ table =
     returned (result (verdict (sampleTrailed ++ 0x01 ∷ []) 12)) is returned (StreamResult.Refused SecondOpening 56) ∷
     returned (result (verdict sampleTrailed 9)) is returned (StreamResult.Refused TooFewWords 56) ∷
     words (rowAtExit word (verdict sampleTrailed 12) (replicate 12 7)) is words (1 ∷ 2 ∷ 2 ∷ 3 ∷ 3 ∷ 4 ∷ 1 ∷ 32_778 ∷ 4 ∷ 4 ∷ 7 ∷ 7 ∷ []) ∷
+    -- Two productions: a stream starts in 0, and each numbers its own bins from 1 and counts its own. 05 answers its byte, with no units, also where it
+    -- names the production that is current.
+    answered 8 (Switch First ∷ Shelve 31 ∷ Shelve 31 ∷ Switch Second ∷ Count ∷ Shelve 31 ∷ Count ∷ Switch First ∷ Count ∷ Shelve 31 ∷ [])
+    is words (0 ∷ 1 ∷ 2 ∷ 1 ∷ 0 ∷ 1 ∷ 1 ∷ 0 ∷ 2 ∷ 3 ∷ 0 ∷ 29 ∷ 29 ∷ 0 ∷ 0 ∷ 29 ∷ 0 ∷ 0 ∷ 0 ∷ 29 ∷ []) ∷
+    -- The commands' numbers run through both, and 17 answers the number of the other production's item, or of 05.
+    answered 8 (Shelve 31 ∷ Switch Second ∷ Shelve 40 ∷ map Withdraw (1 ∷ 2 ∷ 3 ∷ []) ++ Switch First ∷ map Withdraw (3 ∷ 1 ∷ []))
+    is words (1 ∷ 1 ∷ 1 ∷ 32_785 ∷ 32_785 ∷ 1 ∷ 0 ∷ 32_785 ∷ 1 ∷ 29 ∷ 0 ∷ 20 ∷ 0 ∷ 0 ∷ 60 ∷ 0 ∷ 0 ∷ 60 ∷ []) ∷
+    -- Each counts its own B2s: the first of production 1 is no sixth, so the next joins it, and the sixth of production 0 joins no B2.
+    answered 8 (map Shelve (replicate 5 22) ++ Switch Second ∷ Shelve 22 ∷ Shelve 22 ∷ Switch First ∷ Shelve 22 ∷ Shelve 22 ∷ [])
+    is words (1 ∷ 1 ∷ 2 ∷ 2 ∷ 3 ∷ 1 ∷ 1 ∷ 1 ∷ 0 ∷ 4 ∷ 3 ∷ 38 ∷ 16 ∷ 38 ∷ 16 ∷ 38 ∷ 0 ∷ 38 ∷ 16 ∷ 0 ∷ 38 ∷ 16 ∷ []) ∷
+    -- The stock is spent when both together have opened it, however few are a production's own; an item that an opened bin takes still goes there, and
+    -- none goes to a bin of the other.
+    answered 3 (Shelve 60 ∷ Switch Second ∷ Shelve 20 ∷ Shelve 60 ∷ Shelve 60 ∷ Shelve 20 ∷ Switch First ∷ Shelve 20 ∷ Count ∷ [])
+    is words (1 ∷ 1 ∷ 1 ∷ 2 ∷ 32_778 ∷ 1 ∷ 0 ∷ 32_778 ∷ 1 ∷ 0 ∷ 0 ∷ 40 ∷ 0 ∷ 0 ∷ 20 ∷ 0 ∷ 0 ∷ 0 ∷ []) ∷
+    -- A bin that is emptied stays opened, for the other production too.
+    answered 1 (Shelve 60 ∷ Withdraw 1 ∷ Switch Second ∷ Shelve 60 ∷ Switch First ∷ Shelve 60 ∷ [])
+    is words (1 ∷ 1 ∷ 1 ∷ 32_778 ∷ 0 ∷ 1 ∷ 0 ∷ 60 ∷ 0 ∷ 0 ∷ 0 ∷ 0 ∷ []) ∷
+    -- What is returned is of both: the items still shelved, and the bins opened.
+    returns (0x02 ∷ 0 ∷ 0 ∷ 0 ∷ 60 ∷ 0x05 ∷ 1 ∷ 0x02 ∷ 0 ∷ 0 ∷ 0 ∷ 20 ∷ 0x02 ∷ 0 ∷ 0 ∷ 0 ∷ 20 ∷ 0x02 ∷ 0 ∷ 0 ∷ 0 ∷ 60 ∷ []) is returned (StreamResult.Accepted 4 3) ∷
+    returns (0x02 ∷ 0 ∷ 0 ∷ 0 ∷ 60 ∷ 0x05 ∷ 1 ∷ 0x02 ∷ 0 ∷ 0 ∷ 0 ∷ 20 ∷ 0x04 ∷ 0 ∷ 3 ∷ []) is returned (StreamResult.Accepted 1 2) ∷
+    -- 05 takes the bytes 0 and 1, and a byte above is refusal 18 where the command stands, whatever good ones came before it.
+    words (rowAtExit word (verdict (behind (0x05 ∷ 1 ∷ 0x05 ∷ 0 ∷ [])) 2) (7 ∷ 7 ∷ [])) is words (1 ∷ 0 ∷ []) ∷
+    returns (0x05 ∷ 2 ∷ []) is returned (StreamResult.Refused NoProduction 8) ∷
+    returns (0x02 ∷ 0 ∷ 0 ∷ 0 ∷ 60 ∷ 0x05 ∷ 1 ∷ 0x05 ∷ 255 ∷ []) is returned (StreamResult.Refused NoProduction 15) ∷
+    -- It comes after 3, and before 7.
+    returns (0x05 ∷ []) is returned (StreamResult.Refused CutShort 8) ∷
+    returned (result (verdict (behind (0x05 ∷ 2 ∷ [])) 0)) is returned (StreamResult.Refused NoProduction 8) ∷
     -- The sample stream, with two words more in each row than it has commands.
     returned (result (verdict sample 12)) is returned (StreamResult.Accepted 8 4) ∷
     words (rowAtExit word (verdict sample 12) (replicate 12 7)) is words (1 ∷ 2 ∷ 2 ∷ 3 ∷ 3 ∷ 4 ∷ 1 ∷ 32_778 ∷ 4 ∷ 4 ∷ 7 ∷ 7 ∷ []) ∷
@@ -149,5 +185,5 @@ table =
     []
 
 pub worked-shelves : map (λ c. c .0) table ≡ map (λ c. c .1) table
-unfolding table sizeClass total greatest any keep firstFit put decision placed without withdrawal runFrom packingFrom stockPlaces walk zipWith flatten used limits fault entries check widths lookup commands read
+unfolding table sizeClass total greatest any keep firstFit put decision placed without withdrawal runFrom shelfFrom stepsOf stockPlaces walk zipWith flatten used limits fault entries check widths lookup commands read
 worked-shelves = refl

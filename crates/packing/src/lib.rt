@@ -26,12 +26,20 @@ pub struct Opening {
     pub trailer: u16,
 }
 
+// The two productions, which draw on one stock: number 0, in which a stream starts, and number 1.
+pub enum Production {
+    First,
+    Second,
+}
+
 // A command after the opening: 02, shelve an item of this bare size; 03, how many bins are opened; 04, take out the item that the command of this
-// number shelved. (Of one width, so that a command is a kind and a number, and the compiler keeps the two apart.)
+// number shelved; 05, the commands after it belong to this production. (Sizes and numbers are of one width, so that a command is a kind and a number,
+// and the compiler keeps the two apart.)
 pub enum Command {
     Shelve(u32),
     Count,
     Withdraw(u32),
+    Switch(Production),
 }
 
 // A row of the table that gives each command byte its operand width.
@@ -55,15 +63,16 @@ pub enum ItemReason {
 }
 
 // What a command comes to: the bin of its item and the units that the item leaves free there, the number of bins opened, the bin that the item named
-// has left and the units that are then free there, or a refusal.
+// has left and the units that are then free there, the production that the commands after it belong to, or a refusal.
 pub enum Outcome {
     Placed { bin: u16, free: u32 },
     Counted(u16),
     Withdrawn { bin: u16, free: u32 },
+    Switched(Production),
     Refused(ItemReason),
 }
 
-// "An answer joins the command's number with placed, counted or refused", or withdrawn.
+// "An answer joins the command's number with placed, counted or refused", or withdrawn or switched.
 pub struct Answer {
     pub number: usize,
     pub outcome: Outcome,
@@ -75,7 +84,7 @@ pub struct Tally {
     pub read: u16,
 }
 
-// Why a whole stream is refused: 1 to 7.
+// Why a whole stream is refused: 1 to 7, and 18.
 pub enum StreamReason {
     NoOpening,
     UnknownOpcode,
@@ -84,9 +93,10 @@ pub enum StreamReason {
     OutsideLimits,
     TooManyCommands,
     TooFewWords,
+    NoProduction,
 }
 
-// What the stream call returns: items still shelved and bins opened, or a refusal.
+// What the stream call returns: items still shelved and bins opened, of both productions, or a refusal.
 pub enum StreamResult {
     Accepted { items: usize, opened: usize },
     Refused { reason: StreamReason, offset: usize },

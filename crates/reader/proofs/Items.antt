@@ -9,7 +9,7 @@ use lib.Seq.{drop-drop}
 use Rattle.packing.specs.declared.{Opening.Opening, Command.Command}
 use Rattle.packing.specs.declared.Width.the-variants.{Known}
 use Rattle.packing.specs.Limits.{mostCommands}
-use Rattle.packing.specs.Streams.{isOpening, widths, lookup, commandOf, whole}
+use Rattle.packing.specs.Streams.{isOpening, widths, lookup, commandOf, namesNone, whole}
 use Rattle.packing.proofs.Fronts.{front-whole}
 use Rattle.packing.proofs.Walking.{Walk, walk-next}
 use Rattle.fronts.specs.Fronts.{tableWidth}
@@ -27,7 +27,8 @@ item-small = refl
 -- The opcode of an item with its operand behind it.
 item-first : (s : List ℕ) → itemLength ≤ length s → getD s 0 0 ≡ 2 → ItemFirst s
 item-first s l e =
-    front-whole s (tableWidth 2) (record { known = ap (λ b. lookup b widths) e ∙ item-there; no-opening = ap isOpening e; inside = l })
+    front-whole s (tableWidth 2)
+    (record { known = ap (λ b. lookup b widths) e ∙ item-there; no-opening = ap isOpening e; inside = l; names-one = ap (λ b. namesNone b (drop 1 s)) e })
     ∙ ap (λ b. whole (commandOf b (drop 1 s)) (tableWidth 2)) e
 
 -- So many items in bytes.

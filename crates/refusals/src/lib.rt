@@ -3,11 +3,13 @@ use packing::Command;
 use packing::ItemReason;
 use packing::Outcome;
 use packing::PlanReason;
+use packing::Production;
 use packing::StreamReason;
 ghost use mathlib.Core.Path.{_≡_};
 ghost use Prim.Native.Nat.{_-_};
 ghost use Rattle.packing.specs.declared.Outcome.the-variants.{Refused};
 ghost use Rattle.packing.specs.Prelude.{_<?_, if_then_else_};
+ghost use Rattle.packing.specs.Productions.{productionNumber, productionOf};
 ghost use Rattle.packing.specs.Refusals.{itemNumber, streamNumber, planNumber, word, freeUnits, itemReason, outcomeOf};
 
 // The number of an answer's refusal: 8, 9 and 10 are document 01's, 17 is document 02's.
@@ -22,7 +24,7 @@ pub fn item_number(reason: ItemReason) -> u16
     }
 }
 
-// Document 01's number of a stream's refusal.
+// The number of a stream's refusal: 1 to 7 are document 01's, 18 is document 02's.
 pub fn stream_number(reason: StreamReason) -> u16
     ensures { λ r. ⌜ r ≡ streamNumber reason ⌝ }
 {
@@ -34,6 +36,7 @@ pub fn stream_number(reason: StreamReason) -> u16
         StreamReason::OutsideLimits => 5,
         StreamReason::TooManyCommands => 6,
         StreamReason::TooFewWords => 7,
+        StreamReason::NoProduction => 18,
     }
 }
 
@@ -51,6 +54,16 @@ pub fn plan_number(reason: PlanReason) -> u16
     }
 }
 
+// The number of a production, which is the byte of 05.
+pub fn production_number(production: Production) -> u16
+    ensures { λ r. ⌜ r ≡ productionNumber production ⌝ }
+{
+    match production {
+        Production::First => 0,
+        Production::Second => 1,
+    }
+}
+
 // The 16-bit word of an answer.
 pub fn word_of(outcome: Outcome) -> u16
     ensures { λ r. ⌜ r ≡ word outcome ⌝ }
@@ -59,6 +72,7 @@ pub fn word_of(outcome: Outcome) -> u16
         Outcome::Placed { bin, free: _ } => bin,
         Outcome::Counted(opened) => opened,
         Outcome::Withdrawn { bin, free: _ } => bin,
+        Outcome::Switched(production) => production_number(production),
         Outcome::Refused(reason) => {
             let number = item_number(reason);
             32768 + number
@@ -74,6 +88,7 @@ pub fn free_units_of(outcome: Outcome) -> u32
         Outcome::Placed { bin: _, free } => free,
         Outcome::Counted(_) => 0,
         Outcome::Withdrawn { bin: _, free } => free,
+        Outcome::Switched(_) => 0,
         Outcome::Refused(_) => 0,
     }
 }
@@ -90,6 +105,16 @@ fn item_reason(number: u16) -> ItemReason
     }
 }
 
+// The production of a number that has one: 0 or 1.
+fn production_of(number: u16) -> Production
+    ensures { λ r. ⌜ r ≡ productionOf number ⌝ }
+{
+    if number == 0 {
+        return Production::First;
+    }
+    Production::Second
+}
+
 // What an answer word stands for whose command names a bin: this outcome, unless the word is a refusal's.
 fn unless_refused(word: u16, named: Outcome) -> Outcome
     ensures { λ r. ⌜ r ≡ (if word <? 32_768 then named else Refused (itemReason (word - 32_768))) ⌝ }
@@ -101,8 +126,8 @@ fn unless_refused(word: u16, named: Outcome) -> Outcome
     Outcome::Refused(reason)
 }
 
-// The outcome that an answer word and the free units beside it stand for: the command tells a bin's number from a count, and whether an item went there
-// or left.
+// The outcome that an answer word and the free units beside it stand for: the command tells a bin's number from a count or a
+// production, and whether an item went there or left.
 pub fn outcome_of(command: Command, word: u16, free: u32) -> Outcome
     ensures { λ r. ⌜ r ≡ outcomeOf command word free ⌝ }
 {
@@ -110,5 +135,9 @@ pub fn outcome_of(command: Command, word: u16, free: u32) -> Outcome
         Command::Shelve(_) => unless_refused(word, Outcome::Placed { bin: word, free }),
         Command::Count => Outcome::Counted(word),
         Command::Withdraw(_) => unless_refused(word, Outcome::Withdrawn { bin: word, free }),
+        Command::Switch(_) => {
+            let production = production_of(word);
+            Outcome::Switched(production)
+        }
     }
 }

@@ -8,15 +8,15 @@ use lib.Seq.{length-sets}
 use Rattle.packing.specs.declared.{Opening.Opening, Command.Command, Outcome.Outcome, Answer.Answer}
 use Rattle.packing.specs.Limits.{mostCommands}
 use Rattle.packing.specs.Refusals.{word, freeUnits, outcomeOf}
-use Rattle.packing.specs.Bins.{Packing}
 use Rattle.packing.specs.Streams.{behindOpening, whole, frontOf, WholeFront}
-use Rattle.packing.specs.Run.{answerOf, answerTo, runFrom, packing, answers}
+use Rattle.packing.specs.Shelves.{Shelf}
+use Rattle.packing.specs.Run.{answerOf, answerOn, runFrom, shelf, answers}
 use Rattle.packing.specs.Claims.{WholeStream}
 use Rattle.packing.proofs.Limits.{in-limits}
 use Rattle.packing.proofs.Accepted.{accepted-whole}
 use Rattle.packing.proofs.Reached.{reached}
 use Rattle.packing.proofs.Running.{flatten-append, mapped-more, word-ahead}
-use Rattle.packing.proofs.Given.{told-to, word-gives-back}
+use Rattle.packing.proofs.Given.{Told, told-to, word-gives-back}
 use Rattle.packing.proofs.Fronts.{whole-passed}
 use Rattle.packing.proofs.Walking.{Walk, walk-start, walk-next, walk-coming, walked-all, walk-more, walk-whole}
 use Rattle.text.specs.Writing.{Room, Wrote}
@@ -86,37 +86,41 @@ module _ {stream words free out₀ out rest : List ℕ} {done at : ℕ} (g : Lis
     listing-index = omega (arith, g .done-are, more)
 
     module _ (a : Outcome) (e : a ≡ outcomeOf c (getD words done 0) (getD free done 0)) where
-      abbrev packed : Packing
-      packed = packing o (g .past)
+      abbrev before : Shelf
+      before = shelf o (g .past)
+
+      -- What the model answers.
+      abbrev given : Outcome
+      given = answerOn o before (suc (length (g .past))) c
+
+      can-be : Told o c given
+      can-be = told-to o before (suc (length (g .past))) (λ q. reached o q (g .past)) c
 
       stock : o .stock ≤ 512
       stock = in-limits o (ok .opening-good) .stock .1
 
-      -- The words at the command's place tell its answer.
-      told : a ≡ answerTo o packed (suc (length (g .past))) c
+      -- The words at the command's place tell it.
+      told : a ≡ given
       told =
           let coming = walk-coming (walk-next (g .walk) more c w f) all (ok .commands-whole) in
           let all-are : all ≡ g .past ++ c ∷ coming .later = coming .all-are ∙ append-assoc (g .past) (c ∷ []) (coming .later) in
           let here = word-ahead o (g .past) c word (coming .later) words (g .from .others) done (rw (← all-are) (g .from .answers)) (g .done-are) in
           let beside = word-ahead o (g .past) c freeUnits (coming .later) free (g .from .other-frees) done (rw (← all-are) (g .from .frees)) (g .done-are) in
-          e ∙ ap (λ (n : ℕ). outcomeOf c n (getD free done 0)) here ∙ ap (outcomeOf c (word (answerTo o packed (suc (length (g .past))) c))) beside
-          ∙ word-gives-back o packed (suc (length (g .past))) (reached o (g .past)) stock c (answerTo o packed (suc (length (g .past))) c) (told-to o packed (suc (length (g .past))) (reached o (g .past)) c)
+          e ∙ ap (λ (n : ℕ). outcomeOf c n (getD free done 0)) here ∙ ap (outcomeOf c (word given)) beside ∙ word-gives-back o stock c given can-be
 
       -- Its line, and with it the lines so far.
       abbrev printing : Answer
       printing = record { number = done + 1; outcome = a }
 
       line-few : length (answerLine printing) ≤ mostOfALine
-      line-few =
-          rw told
-          (answer-line-few o packed (suc (length (g .past))) (reached o (g .past)) stock (in-limits o (ok .opening-good) .capacity .1) (done + 1) (omega (arith, listing-index)) c (answerTo o packed (suc (length (g .past))) c) (told-to o packed (suc (length (g .past))) (reached o (g .past)) c))
+      line-few = rw told (answer-line-few o stock (in-limits o (ok .opening-good) .capacity .1) (done + 1) (omega (arith, listing-index)) c given can-be)
 
       lines-more : lines (answers o (g .past ++ c ∷ [])) ≡ lines (answers o (g .past)) ++ answerLine printing
       unfolding flatten
       lines-more =
           let number : suc (length (g .past)) ≡ done + 1 = omega (arith, g .done-are) in
           rw (mapped-more o (g .past) c answerOf, map-append, flatten-append, append-nil)
-          (ap (λ (l : List ℕ). lines (answers o (g .past)) ++ l) (ap (λ (k : ℕ). lineOf k (answerTo o packed (suc (length (g .past))) c)) number ∙ ap (lineOf (done + 1)) (sym told)))
+          (ap (λ (l : List ℕ). lines (answers o (g .past)) ++ l) (ap (λ (k : ℕ). lineOf k given) number ∙ ap (lineOf (done + 1)) (sym told)))
 
       pub listing-room : Room out at (answerLine printing)
       listing-room = omega (arith, line-few, g .few, g .from .room, listing-same, listing-index)

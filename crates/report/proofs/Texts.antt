@@ -1,13 +1,14 @@
 -- What is printed of a stream, by what `shelve` of the crate stream returns of it.
 use mathlib.Core.Path.{_≡_, refl, sym, ap, _∙_}
 use mathlib.Core.List.{List, [], _∷_, _++_}
-use Prim.Native.Nat.{ℕ, _≤_, _<_}
+use Prim.Native.Nat.{ℕ, _+_, _≤_, _<_}
 use Prim.Native.Char.{code}
 use native.Mathlib.Omega.{arith}
 use lib.ListN.{length, take, drop, length-append}
 use lib.Seq.{length-take-le}
 use borrow.Author.Tests.{lt-ltb, le-ltb}
 use Rattle.packing.specs.declared.{Opening.Opening, Command.Command, StreamReason.StreamReason, StreamResult.StreamResult}
+use Rattle.packing.specs.declared.Production.the-variants.{First, Second}
 use Rattle.packing.specs.Refusals.{word, freeUnits, streamNumber}
 use Rattle.packing.specs.Bins.{opened}
 use Rattle.packing.specs.Streams.{Read, accepted, refused, verdict}
@@ -15,7 +16,7 @@ use Rattle.packing.specs.Limits.{mostCommands}
 use Rattle.packing.specs.Run.{packing, answers, stillShelved, result, rowAtExit}
 use Rattle.packing.proofs.Tests.{clash}
 use Rattle.packing.proofs.Limits.{in-limits}
-use Rattle.packing.proofs.Reached.{reached}
+use Rattle.packing.proofs.Reached.{both-in-stock}
 use Rattle.packing.proofs.Running.{shelved-few}
 use Rattle.packing.proofs.Given.{stream-number-few}
 use Rattle.packing.proofs.Accepted.{accepted-whole}
@@ -32,7 +33,7 @@ long-length = refl
 
 -- The line of a refusal, whose offset is some number of 64 bits.
 pub refusal-few : (reason : StreamReason) (offset : ℕ) → offset < 18446744073709551616 → length (refusal reason offset) ≤ mostOfARefusal
-refusal-few reason offset h = line-few (code "X") 0 19 (streamNumber reason) offset (omega (arith, stream-number-few reason)) (omega arith)
+refusal-few reason offset h = line-few (code "X") 1 19 (streamNumber reason) offset (omega (arith, stream-number-few reason)) (omega arith)
 
 module _ (made : Opening → List Command → List ℕ) (stream : List ℕ) where
   pub printing-long : mostBytes < length stream → printing made stream ≡ overlong
@@ -82,10 +83,10 @@ module _ (stream : List ℕ) (items bins : ℕ) (e : StreamResult.Accepted items
     returned : StreamResult.Accepted items bins ≡ result (accepted o cs)
     returned = e ∙ ap result accepts
 
-    items-are : items ≡ length (stillShelved o cs)
+    items-are : items ≡ length (stillShelved o First cs) + length (stillShelved o Second cs)
     items-are = let r = returned in cc
 
-    bins-are : bins ≡ opened (packing o cs)
+    bins-are : bins ≡ opened (packing o First cs) + opened (packing o Second cs)
     bins-are = let r = returned in cc
 
     -- "T 4096 512" and the newline.
@@ -95,7 +96,7 @@ module _ (stream : List ℕ) (items bins : ℕ) (e : StreamResult.Accepted items
         let stock = in-limits o (ok .opening-good) .stock .1 in
         omega (
           arith,
-          line-few (code "T") 3 2 items bins (omega (arith, items-are, shelved-few o cs, ok .commands-few)) (omega (arith, bins-are, reached o cs .stock-lasts, stock)),
+          line-few (code "T") 3 2 items bins (omega (arith, items-are, shelved-few o cs, ok .commands-few)) (omega (arith, bins-are, both-in-stock o cs, stock)),
         )
 
     pub printed-accepted : length stream ≤ mostBytes → printed stream ≡ lines (answers o cs) ++ line (code "T") (items ∷ bins ∷ [])

@@ -1,6 +1,7 @@
--- "Worked shelves": what is printed of the sample of document 01, whole, "amended by that column", and of the shortest streams.
+-- "Worked shelves": what is printed of the sample of document 01, whole, "amended by that column", of two productions that
+-- spend one stock, and of the shortest streams.
 use mathlib.Core.Path.{_≡_, refl}
-use mathlib.Core.List.{List, [], _∷_, map, flatten}
+use mathlib.Core.List.{List, [], _∷_, _++_, map, flatten}
 use Prim.Native.Nat.{ℕ}
 use Prim.Native.Char.{code}
 use Prim.Native.String.{String}
@@ -10,7 +11,7 @@ use Rattle.packing.specs.Prelude.{total, any, keep}
 use Rattle.packing.specs.Withdrawing.{without, withdrawal}
 use Rattle.packing.specs.SizeClasses.{sizeClass}
 use Rattle.packing.specs.Streams.{widths, lookup, commands, read}
-use Rattle.packing.specs.Run.{runFrom, packingFrom}
+use Rattle.packing.specs.Run.{runFrom, shelfFrom, stepsOf}
 use Rattle.packing.specs.Worked.{sample}
 use Rattle.text.specs.Lines.{digits, decimal, line}
 use Rattle.report.specs.Lines.{text, printing, printed}
@@ -20,14 +21,31 @@ unfoldable pub bytes : String → List ℕ
 bytes end-of-text = []
 bytes (c before s) = code c ∷ bytes s
 
--- Streams beside what is printed of them: the sample, an opening alone, and no stream at all.
+-- Capacity 60 and a stock of 3: items of 60, 20 and 60, the last two in production 1; there a count, one item too many, and the number of production 0's
+-- item; then production 0 again, and a count.
+abbrev pub both : List ℕ
+both =
+    0x01 ∷ 0 ∷ 0 ∷ 0 ∷ 60 ∷ 0 ∷ 3 ∷ 6 ∷
+    0x02 ∷ 0 ∷ 0 ∷ 0 ∷ 60 ∷
+    0x05 ∷ 1 ∷
+    0x02 ∷ 0 ∷ 0 ∷ 0 ∷ 20 ∷
+    0x02 ∷ 0 ∷ 0 ∷ 0 ∷ 60 ∷
+    0x03 ∷
+    0x02 ∷ 0 ∷ 0 ∷ 0 ∷ 60 ∷
+    0x04 ∷ 0 ∷ 1 ∷
+    0x05 ∷ 0 ∷
+    0x03 ∷ []
+
+-- Streams beside what is printed of them: the sample, that of two productions, one that names a third, an opening alone, and no stream at all.
 unfoldable pub table : List (List ℕ × String)
 table =
     (sample, "P 1 1 25\nP 2 2 38\nP 3 2 16\nP 4 3 38\nP 5 3 16\nP 6 4 38\nP 7 1 3\nR 8 10\nC 9 4\nP 10 4 16\nT 8 4\n") ∷
+    (both, "P 1 1 0\nS 2 1\nP 3 1 40\nP 4 2 0\nC 5 2\nR 6 10\nR 7 17\nS 8 0\nC 9 1\nT 3 3\n") ∷
+    (both ++ 0x05 ∷ 2 ∷ [], "X 18 37\n") ∷
     (0x01 ∷ 0 ∷ 0 ∷ 0 ∷ 0x3C ∷ 0 ∷ 4 ∷ 6 ∷ [], "T 0 0\n") ∷
     ([], "X 1 0\n") ∷
     []
 
 pub worked-texts : map (λ c. printed (c .0)) table ≡ map (λ c. bytes (c .1)) table
-unfolding table bytes printed printing text line decimal digits sizeClass total any keep firstFit put decision placed without withdrawal runFrom packingFrom flatten widths lookup commands read
+unfolding table bytes printed printing text line decimal digits sizeClass total any keep firstFit put decision placed without withdrawal runFrom shelfFrom stepsOf flatten widths lookup commands read
 worked-texts = refl

@@ -30,6 +30,11 @@ fn put_answer(out: &mut [u8], at: usize, answer: Answer) -> usize
             let figures = [number, bin];
             text::put_line(out, at, b'O', &figures)
         }
+        Outcome::Switched(production) => {
+            let production = refusals::production_number(production) as usize;
+            let figures = [number, production];
+            text::put_line(out, at, b'S', &figures)
+        }
         Outcome::Refused(reason) => {
             let refusal = refusals::item_number(reason) as usize;
             let figures = [number, refusal];

@@ -1,48 +1,81 @@
--- A ledger that records the packing after an accepted stream: its rows are legible, and what they tell is the sheet.
-use mathlib.Core.Path.{_≡_, refl, sym, ap, subst, _∙_}
+-- The ledgers of the two productions tell the sheet: production 0's lines stand at the front of the row, and behind them production 1's.
+use mathlib.Core.Path.{_≡_, sym, ap, _∙_}
 use mathlib.Core.Bool.{true}
-use mathlib.Core.List.{List, [], _∷_, map, List·Memᴰ, List·Memᴰ·head, List·Memᴰ·tail}
-use Prim.Native.Nat.{ℕ, zero, suc, _+_, _*_, _≤_, _<_}
+use mathlib.Core.List.{List, _++_}
+use Prim.Native.Nat.{ℕ, _+_, _≤_}
 use native.Mathlib.Omega.{arith}
-use lib.ListN.{length, getD}
-use Rattle.packing.specs.declared.{Opening.Opening, Command.Command}
-use Rattle.packing.specs.Bins.{Bin, opened}
+use lib.ListN.{length}
+use Rattle.packing.specs.declared.{Opening.Opening, Production.Production, Command.Command, Tally.Tally}
+use Rattle.packing.specs.declared.Production.the-variants.{First, Second}
+use Rattle.packing.specs.Bins.{opened}
 use Rattle.packing.specs.Limits.{openingGood, mostCommands}
 use Rattle.packing.specs.Run.{packing}
 use Rattle.packing.proofs.Limits.{in-limits}
-use Rattle.packing.proofs.Reached.{reached}
-use Rattle.ledger.specs.Rows.{places, blank}
-use Rattle.ledger.specs.Records.{rowOf as ledgerRow, Records}
-use Rattle.ledger.proofs.Rows.{bins-rows}
-use Rattle.sheet.specs.Sheet.{linesText, sheetText}
-use Rattle.sheet.specs.Writing.{toldFrom, Legible, lineLength, pagesOf, entriesText, ledgerText, Legibles}
-use Rattle.sheet.proofs.Bins.{bin-legible, told-rows}
-use Rattle.sheet.proofs.Theorems.{pages-open}
+use Rattle.packing.proofs.Reached.{reached, both-in-stock}
+use Rattle.ledger.specs.Rows.{places}
+use Rattle.ledger.specs.Records.{Records}
+use Rattle.ledger.specs.Counting.{Countable, Tallied}
+use Rattle.text.specs.Writing.{Wrote, AtFront}
+use Rattle.text.proofs.Rows.{wrote-same, wrote-both, at-front}
+use Rattle.pages.specs.Pages.{lines, linesText}
+use Rattle.pages.specs.Claims.{pagesOf}
+use Rattle.pages.specs.Writing.{linesLength, ledgerText, Legibles}
+use Rattle.pages.proofs.Ledgers.{ledger-legible, ledger-text}
+use Rattle.pages.proofs.Forty.{lines-length}
+use Rattle.stream.specs.Recorded.{BothRecorded}
+use Rattle.sheet.specs.Sheet.{rowsOf, sheetText}
+use Rattle.sheet.specs.Writing.{mostOfASheet}
+use Rattle.sheet.proofs.Both.{text-both}
+use Rattle.sheet.proofs.Theorems.{before-is, printable}
 
--- The bin at a place, where there is one, has what each bin has.
-at-place : (P : List ℕ → Type 0) (f : Bin → List ℕ) (d : List ℕ) (bins : List Bin) (i : ℕ) → i < length bins
-    → ((b : Bin) → List·Memᴰ b bins → P (f b)) → P (getD (map f bins) i d)
-at-place P f d [] i l h = absurd (omega arith)
-at-place P f d (b ∷ bs) zero l h = h b (List·Memᴰ·head refl)
-at-place P f d (b ∷ bs) (suc i) l h = at-place P f d bs i (omega arith) (λ x m. h x (List·Memᴰ·tail m))
+-- A ledger counts the bins of the production whose packing it records.
+module _ {o : Opening} (good : openingGood o ≡ true) {ledger : List (List ℕ)} (q : Production) (cs : List Command) (k : Records o ledger (packing o q cs)) where
+  pub countable : Countable ledger (o .stock)
+  countable = record { whole = k .whole; few = in-limits o good .stock .1 }
 
-module _ (o : Opening) (cs : List Command) (good : openingGood o ≡ true) (few : length cs ≤ mostCommands) {ledger : List (List ℕ)} (k : Records o ledger (packing o cs)) where
-  pub bins-few : opened (packing o cs) ≤ places
-  bins-few = omega (arith, reached o cs .stock-lasts, in-limits o good .stock .1)
+  pub counted : (t : Tally) → Tallied ledger (o .stock) t → t .figure ≡ opened (packing o q cs)
+  counted t h = ap (λ (t : Tally). t .figure) (h .model o (packing o q cs) k (reached o q cs .stock-lasts))
 
-  pub ledger-legible : (out : List ℕ) → lineLength * (places + pagesOf places) ≤ length out → Legibles ledger (o .capacity) (opened (packing o cs)) out
-  ledger-legible out room =
-      record {
-        whole = k .whole;
-        opened-few = bins-few;
-        legible =
-            λ place l. subst (Legible (o .capacity) (place + 1)) (sym (k .row place (omega (arith, bins-few))))
-            (at-place (Legible (o .capacity) (place + 1)) (ledgerRow o) blank (packing o cs .bins) place l
-            (λ b m. bin-legible o cs good few (place + 1) (omega (arith, bins-few)) b m));
-        room = room;
-      }
+-- The two together are in the stock, so their pages are at most one more than those of all bins.
+fits : (o : Opening) → openingGood o ≡ true → (cs : List Command) → linesLength (opened (packing o First cs)) + linesLength (opened (packing o Second cs)) ≤ mostOfASheet
+fits o good cs = omega (arith, both-in-stock o cs, in-limits o good .stock .1)
 
-  pub ledger-text : ledgerText ledger (o .capacity) (opened (packing o cs)) ≡ sheetText o cs
-  ledger-text =
-      ap entriesText (ap (toldFrom (o .capacity) 1) (bins-rows k bins-few) ∙ told-rows o 1 (packing o cs .bins) (λ b m. reached o cs .bins-sound b m .not-overfull))
-      ∙ ap linesText (sym (pages-open o cs))
+-- What is written of production 0, by so many bins; of production 1, by so many and behind so many pages.
+module _ {o : Opening} (good : openingGood o ≡ true) (cs : List Command) (few : length cs ≤ mostCommands) {first second : List (List ℕ)} (k : BothRecorded o cs first second)
+    (bins0 : ℕ) (e0 : bins0 ≡ opened (packing o First cs)) (out : List ℕ) (room : mostOfASheet ≤ length out) where
+  pub first-legible : Legibles first (o .capacity) bins0 0 out 0
+  first-legible = rw e0 (ledger-legible (printable o cs good few First) (k .first-is) 0 (omega arith) out 0 (omega (arith, fits o good cs)))
+
+  first-text : ledgerText first (o .capacity) bins0 0 ≡ linesText (lines 0 (rowsOf o First cs))
+  first-text = rw e0 (ledger-text (printable o cs good few First) (k .first-is) 0)
+
+  module _ {end : ℕ} {out′ : List ℕ} (w : Wrote out 0 (ledgerText first (o .capacity) bins0 0) end out′)
+      (bins1 : ℕ) (e1 : bins1 ≡ opened (packing o Second cs)) (before : ℕ) (pages : before ≡ pagesOf bins0) where
+    first-end : end ≡ linesLength (opened (packing o First cs))
+    first-end = omega (arith, w .place, ap length first-text, lines-length 0 (omega arith) (printable o cs good few First))
+
+    before-few : before ≤ places
+    before-few = omega (arith, pages, e0, printable o cs good few First .bins-few)
+
+    pub second-legible : Legibles second (o .capacity) bins1 before out′ end
+    second-legible =
+        rw e1 (ledger-legible (printable o cs good few Second) (k .second-is) before before-few out′ end (omega (arith, fits o good cs, first-end, wrote-same w)))
+
+    second-text : ledgerText second (o .capacity) bins1 before ≡ linesText (lines before (rowsOf o Second cs))
+    second-text = rw e1 (ledger-text (printable o cs good few Second) (k .second-is) before)
+
+    -- The pages before production 1 are those of production 0.
+    sheet-is : ledgerText first (o .capacity) bins0 0 ++ ledgerText second (o .capacity) bins1 before ≡ sheetText o cs
+    sheet-is =
+        let same : before ≡ _ = pages ∙ ap pagesOf e0 ∙ sym (before-is o cs) in
+        ap (λ (t : List ℕ). t ++ ledgerText second (o .capacity) bins1 before) first-text
+        ∙ ap (λ (t : List ℕ). linesText (lines 0 (rowsOf o First cs)) ++ t) (second-text ∙ ap (λ (n : ℕ). linesText (lines n (rowsOf o Second cs))) same)
+        ∙ sym (text-both (lines 0 (rowsOf o First cs)) (lines _ (rowsOf o Second cs)))
+
+    pub sheet-stands : (end′ : ℕ) (out″ : List ℕ) → Wrote out′ end (ledgerText second (o .capacity) bins1 before) end′ out″ → AtFront out (sheetText o cs) end′ out″
+    sheet-stands end′ out″ v =
+        let whole = wrote-both out 0 (ledgerText first (o .capacity) bins0 0) (ledgerText second (o .capacity) bins1 before) end out′ w end′ out″ v in
+        let long = lines-length before before-few (printable o cs good few Second) in
+        rw (← sheet-is)
+        (at-front out (ledgerText first (o .capacity) bins0 0 ++ ledgerText second (o .capacity) bins1 before) end′ out″
+        (omega (arith, whole .place, v .place, ap length second-text, long, fits o good cs, first-end)) whole)

@@ -1,57 +1,31 @@
--- What the functions that write the sheet promise to each other. They read a ledger.
+-- What the functions that print the sheet promise to each other.
 use mathlib.Core.Path.{_≡_}
-use mathlib.Core.List.{List, [], _∷_, map, flatten}
-use Prim.Native.Nat.{ℕ, suc, _+_, _*_, _-_, _/_, _^_, _≤_, _<_}
-use lib.ListN.{length, take}
-use Rattle.ledger.specs.Rows.{places, rowAt, classIn, freeIn, heldIn}
-use Rattle.text.specs.Writing.{Room}
-use Rattle.sheet.specs.Sheet.{Row, linesText}
-use Rattle.sheet.specs.Claims.{withPage}
+use mathlib.Core.Bool.{true}
+use mathlib.Core.List.{List}
+use Prim.Native.Nat.{ℕ, _+_, _*_, _≤_}
+use lib.ListN.{length}
+use Rattle.packing.specs.declared.{Opening.Opening, Command.Command}
+use Rattle.packing.specs.Limits.{openingGood, mostCommands}
+use Rattle.ledger.specs.Rows.{places}
+use Rattle.text.specs.Writing.{AtFront}
+use Rattle.pages.specs.Claims.{pagesOf}
+use Rattle.pages.specs.Writing.{lineLength}
+use Rattle.stream.specs.Recorded.{BothRecorded}
+use Rattle.sheet.specs.Sheet.{sheetText}
 
--- What the sheet tells of a bin, by its row of the ledger.
-abbrev pub told : (capacity number : ℕ) (row : List ℕ) → Row
-told capacity number row = record { number = number; class = classIn row; load = capacity - freeIn row; free = freeIn row; held = heldIn row }
+-- No sheet is longer: a line for each bin, and for each page of all bins and of one more, since each production can leave its last page short.
+abbrev pub mostOfASheet : ℕ
+mostOfASheet = lineLength * (places + (pagesOf places + 1))
 
--- Of the bins of rising numbers, whose rows follow each other.
-unfoldable pub toldFrom : (capacity number : ℕ) (rows : List (List ℕ)) → List Row
-toldFrom capacity number [] = []
-toldFrom capacity number (row ∷ rest) = told capacity number row ∷ toldFrom capacity (suc number) rest
+-- The ledgers record what some commands left, as many as a stream can have, and there is room for every sheet.
+pub record Sheetable (o : Opening) (first second : List (List ℕ)) (out : List ℕ) : Type 0 where
+  pub opening-good : openingGood o ≡ true
+  pub commands : List Command
+  pub commands-few : length commands ≤ mostCommands
+  pub records : BothRecorded o commands first second
+  pub room : mostOfASheet ≤ length out
 
--- Each figure has its place on the line.
-pub record Legible (capacity number : ℕ) (row : List ℕ) : Type 0 where
-  pub number-few : number < 10 ^ 4
-  pub class-few : classIn row < 10 ^ 1
-  pub capacity-few : capacity < 10 ^ 8
-  pub free-few : freeIn row ≤ capacity
-  pub held-few : heldIn row < 10 ^ 4
-
--- A line and its newline.
-abbrev pub lineLength : ℕ
-lineLength = 41
-
--- So many rows have so many pages.
-abbrev pub pagesOf : (count : ℕ) → ℕ
-pagesOf count = (count + 49) / 50
-
--- The lines of rows, each behind that of the page which it opens, if it does.
-abbrev pub entryText : Row → List ℕ
-entryText r = linesText (withPage r)
-
-abbrev pub entriesText : List Row → List ℕ
-entriesText rs = linesText (flatten (map withPage rs))
-
--- There is room for the line of a cartridge and of the page which it opens, if it does.
-pub record Enterable (out : List ℕ) (at capacity number : ℕ) (row : List ℕ) : Type 0 where
-  pub legible : Legible capacity number row
-  pub room : Room out at (entryText (told capacity number row))
-
--- The lines of all opened bins, by the ledger.
-abbrev pub ledgerText : (ledger : List (List ℕ)) (capacity opened : ℕ) → List ℕ
-ledgerText ledger capacity opened = entriesText (toldFrom capacity 1 (take opened ledger))
-
--- The first rows of the ledger are legible, as the cartridges of rising numbers, and there is room for their lines and pages.
-pub record Legibles (ledger : List (List ℕ)) (capacity opened : ℕ) (out : List ℕ) : Type 0 where
-  pub whole : length ledger ≡ places
-  pub opened-few : opened ≤ places
-  pub legible : (place : ℕ) → place < opened → Legible capacity (place + 1) (rowAt ledger place)
-  pub room : lineLength * (places + pagesOf places) ≤ length out
+-- The sheet of whatever commands the ledgers record stands at the front of the row.
+abbrev pub Sheeted : (o : Opening) (first second : List (List ℕ)) (out : List ℕ) (end : ℕ) (out′ : List ℕ) → Type 0
+Sheeted o first second out end out′ =
+    (cs : List Command) → length cs ≤ mostCommands → BothRecorded o cs first second → AtFront out (sheetText o cs) end out′

@@ -7,12 +7,12 @@ ghost use Rattle.packing.specs.Refusals.{word, freeUnits};
 ghost use Rattle.packing.specs.Streams.{wordsLent, verdict};
 ghost use Rattle.packing.specs.Run.{result, rowAtExit};
 ghost use Rattle.packing.specs.Plans.{planOf, check};
-ghost use Rattle.packing.specs.Claims.{HoldsAnswered, NeverOverfull, LowestPermitted, FreeUnits, LoadsAddUp, ByStoredSizes, Withdrawals, AnswersInRange, RefusedLeftOut, Counts};
+ghost use Rattle.packing.specs.Claims.{HoldsAnswered, NeverOverfull, LowestPermitted, FreeUnits, LoadsAddUp, ByStoredSizes, Withdrawals, Stays, AnswersInRange, RefusedLeftOut, Opened, Counts, Productions};
 ghost use Rattle.worst_case.specs.OwnPlan.{OwnPlan};
 ghost use Rattle.worst_case.specs.WorstCase.{WorstCase};
 ghost use Rattle.sheet.specs.Sheet.{sheet};
-ghost use Rattle.sheet.specs.Claims.{LinesOf40, OneRowEach, SheetLoadsAddUp, FreeAndLoad, PagesOpen};
-ghost use Rattle.shelf.specs.Accepted.{WhenAccepted};
+ghost use Rattle.sheet.specs.Claims.{LinesOf40, OneRowEach, SheetLoadsAddUp, FreeAndLoad, PagesOpen, PagesRunOn};
+ghost use Rattle.shelf.specs.Accepted.{WhenAccepted, OfEach, Independent};
 ghost use Rattle.codes.specs.Codes.{streamCode, FiguresFit, planCode, PlaceFits, ZeroExactly};
 
 // Shelves the items of a command stream (`shelf::shelve`).
@@ -23,17 +23,21 @@ pub extern "C" fn shelf_stream(stream: &[u8], answers: &mut [u16], free: &mut [u
     ensures answers { λ _. ⌜ now (answers .exit) ≡ rowAtExit word (verdict (now (stream .entry)) (wordsLent (now (answers .entry)) (now (free .entry)))) (now (answers .entry)) ⌝ }
     ensures free { λ _. ⌜ now (free .exit) ≡ rowAtExit freeUnits (verdict (now (stream .entry)) (wordsLent (now (answers .entry)) (now (free .entry)))) (now (free .entry)) ⌝ }
     ensures counts { λ _. ⌜ WhenAccepted (now (stream .entry)) (wordsLent (now (answers .entry)) (now (free .entry))) Counts ⌝ }
-    ensures holds_answered { λ _. ⌜ WhenAccepted (now (stream .entry)) (wordsLent (now (answers .entry)) (now (free .entry))) HoldsAnswered ⌝ }
-    ensures never_overfull { λ _. ⌜ WhenAccepted (now (stream .entry)) (wordsLent (now (answers .entry)) (now (free .entry))) NeverOverfull ⌝ }
+    ensures opened { λ _. ⌜ WhenAccepted (now (stream .entry)) (wordsLent (now (answers .entry)) (now (free .entry))) (OfEach Opened) ⌝ }
+    ensures productions { λ _. ⌜ WhenAccepted (now (stream .entry)) (wordsLent (now (answers .entry)) (now (free .entry))) Productions ⌝ }
+    ensures independent { λ _. ⌜ Independent (now (stream .entry)) (wordsLent (now (answers .entry)) (now (free .entry))) ⌝ }
+    ensures holds_answered { λ _. ⌜ WhenAccepted (now (stream .entry)) (wordsLent (now (answers .entry)) (now (free .entry))) (OfEach HoldsAnswered) ⌝ }
+    ensures never_overfull { λ _. ⌜ WhenAccepted (now (stream .entry)) (wordsLent (now (answers .entry)) (now (free .entry))) (OfEach NeverOverfull) ⌝ }
     ensures lowest_permitted { λ _. ⌜ WhenAccepted (now (stream .entry)) (wordsLent (now (answers .entry)) (now (free .entry))) LowestPermitted ⌝ }
-    ensures free_units { λ _. ⌜ WhenAccepted (now (stream .entry)) (wordsLent (now (answers .entry)) (now (free .entry))) FreeUnits ⌝ }
-    ensures loads_add_up { λ _. ⌜ WhenAccepted (now (stream .entry)) (wordsLent (now (answers .entry)) (now (free .entry))) LoadsAddUp ⌝ }
+    ensures free_units { λ _. ⌜ WhenAccepted (now (stream .entry)) (wordsLent (now (answers .entry)) (now (free .entry))) (OfEach FreeUnits) ⌝ }
+    ensures loads_add_up { λ _. ⌜ WhenAccepted (now (stream .entry)) (wordsLent (now (answers .entry)) (now (free .entry))) (OfEach LoadsAddUp) ⌝ }
     ensures by_stored_sizes { λ _. ⌜ WhenAccepted (now (stream .entry)) (wordsLent (now (answers .entry)) (now (free .entry))) ByStoredSizes ⌝ }
     ensures withdrawals { λ _. ⌜ WhenAccepted (now (stream .entry)) (wordsLent (now (answers .entry)) (now (free .entry))) Withdrawals ⌝ }
-    ensures answers_in_range { λ _. ⌜ WhenAccepted (now (stream .entry)) (wordsLent (now (answers .entry)) (now (free .entry))) AnswersInRange ⌝ }
+    ensures stays { λ _. ⌜ WhenAccepted (now (stream .entry)) (wordsLent (now (answers .entry)) (now (free .entry))) (OfEach Stays) ⌝ }
+    ensures answers_in_range { λ _. ⌜ WhenAccepted (now (stream .entry)) (wordsLent (now (answers .entry)) (now (free .entry))) (OfEach AnswersInRange) ⌝ }
     ensures refused_left_out { λ _. ⌜ WhenAccepted (now (stream .entry)) (wordsLent (now (answers .entry)) (now (free .entry))) RefusedLeftOut ⌝ }
-    ensures own_plan_passes { λ _. ⌜ WhenAccepted (now (stream .entry)) (wordsLent (now (answers .entry)) (now (free .entry))) OwnPlan ⌝ }
-    ensures worst_case { λ _. ⌜ WhenAccepted (now (stream .entry)) (wordsLent (now (answers .entry)) (now (free .entry))) WorstCase ⌝ }
+    ensures own_plan_passes { λ _. ⌜ WhenAccepted (now (stream .entry)) (wordsLent (now (answers .entry)) (now (free .entry))) (OfEach OwnPlan) ⌝ }
+    ensures worst_case { λ _. ⌜ WhenAccepted (now (stream .entry)) (wordsLent (now (answers .entry)) (now (free .entry))) (OfEach WorstCase) ⌝ }
 {
     let r = crate::shelve(stream, answers, free);
     codes::stream_code(r)
@@ -49,6 +53,7 @@ pub extern "C" fn shelf_sheet(stream: &[u8], out: &mut [u8; sheet::N]) -> u64
     ensures loads_add_up { λ _. ⌜ WhenAccepted (now (stream .entry)) mostCommands SheetLoadsAddUp ⌝ }
     ensures free_and_load { λ _. ⌜ WhenAccepted (now (stream .entry)) mostCommands FreeAndLoad ⌝ }
     ensures pages_open { λ _. ⌜ WhenAccepted (now (stream .entry)) mostCommands PagesOpen ⌝ }
+    ensures pages_run_on { λ _. ⌜ WhenAccepted (now (stream .entry)) mostCommands PagesRunOn ⌝ }
 {
     crate::print_sheet(stream, out) as u64
 }

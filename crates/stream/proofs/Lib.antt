@@ -1,5 +1,4 @@
--- The laws that the call over both passes rests on: the verdict; the second pass. For the crates above: Shelved, what the call leaves.
+-- The laws that the call over both passes rests on: the verdict; what the second pass returns. For the crates above: Shelved, what the call leaves.
 pub mod Verdicts
-pub mod Counted
-pub mod Going
+pub mod Ran
 pub mod Shelved

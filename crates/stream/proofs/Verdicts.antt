@@ -5,13 +5,12 @@ use Prim.Native.Nat.{ℕ, _≤_, _<_}
 use native.Mathlib.Omega.{arith}
 use lib.ListN.{length}
 use borrow.Author.Tests.{lt-ltb, le-ltb}
-use Rattle.packing.specs.declared.{Opening.Opening, StreamReason.StreamReason}
+use Rattle.packing.specs.declared.{Opening.Opening, Command.Command, StreamReason.StreamReason}
 use Rattle.packing.specs.declared.StreamReason.the-variants.{TooFewWords}
 use Rattle.packing.specs.Streams.{Read, accepted, refused, read, lent, verdict}
 use Rattle.packing.proofs.Tests.{clash}
 use Rattle.reader.specs.declared.Summary.the-variants.{Accepted, Refused}
 use Rattle.reader.specs.Reading.{summary}
-use Rattle.stream.specs.Running.{Runnable}
 
 module _ (stream : List ℕ) (words : ℕ) where
   abbrev lending : Read → Read
@@ -33,10 +32,15 @@ module _ (stream : List ℕ) (words : ℕ) where
         go (accepted o′ cs) q = let same : count ≡ length cs = cc in rw (lt-ltb words (length cs) (omega arith))
         go (refused reason offset) q = clash (cc)
 
-    pub verdict-accepted : count ≤ words → Runnable stream words o
+    -- No refusal stops it.
+    pub record Passes : Type 0 where
+      pub commands : List Command
+      pub accepts : verdict stream words ≡ accepted o commands
+
+    pub verdict-accepted : count ≤ words → Passes
     verdict-accepted l = go (read stream) refl e
       where
-        go : (r : Read) → read stream ≡ r → Accepted o count ≡ summary r → Runnable stream words o
+        go : (r : Read) → read stream ≡ r → Accepted o count ≡ summary r → Passes
         go (accepted o′ cs) p q =
             let same : count ≡ length cs = cc in
             let opening : o′ ≡ o = cc in

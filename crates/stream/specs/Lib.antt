@@ -1,3 +1,2 @@
--- What the second pass and the call over both passes promise, in the model's terms.
-pub mod Running
+-- What the call over both passes promises, in the model's terms.
 pub mod Recorded

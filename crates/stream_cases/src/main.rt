@@ -77,21 +77,36 @@ fn refusals() {
     show(b"3, opening cut\n", b"\x01\0\0\0\x3c\0\x04");
     show(b"3, item cut\n", b"\x01\0\0\0\x3c\0\x04\x06\x02\0\0\0");
     show(b"3, withdrawal cut\n", b"\x01\0\0\0\x3c\0\x04\x06\x04\0");
+    show(b"3, 05 cut\n", b"\x01\0\0\0\x3c\0\x04\x06\x05");
     show(
         b"4, second opening\n",
         b"\x01\0\0\0\x3c\0\x04\x06\x03\x01\0\0\0\x3c\0\x04\x06",
     );
     show(b"5, all operands 0\n", b"\x01\0\0\0\0\0\0\0");
+    show(b"18, production 2\n", b"\x01\0\0\0\x3c\0\x04\x06\x05\x02");
+    show(
+        b"18, production 255 after 1 and 0\n",
+        b"\x01\0\0\0\x3c\0\x04\x06\x02\0\0\0\x16\x05\x01\x05\0\x05\xff",
+    );
 }
 
-// Two faults: at one command the order is 1, 6, 2, 4, 3, 5, and of two commands the earlier decides.
+// Two faults: at one command the order is 1, 6, 2, 4, 3, 18, 5, and of two commands the earlier decides.
 fn orders() {
     show(b"4 before 3\n", b"\x01\0\0\0\x3c\0\x04\x06\x01\0");
     show(b"3 before 5\n", b"\x01\0\0\0\0\0\0");
     show(b"5 before 2\n", b"\x01\0\0\0\0\0\x04\x06\x08");
+    show(b"5 before 18\n", b"\x01\0\0\0\0\0\x04\x06\x05\x02");
     show(
         b"2 before 4, the earlier command\n",
         b"\x01\0\0\0\x3c\0\x04\x06\x08\x01",
+    );
+    show(
+        b"18 before 2, the earlier command\n",
+        b"\x01\0\0\0\x3c\0\x04\x06\x05\x02\x08",
+    );
+    show(
+        b"2 before 18, the earlier command\n",
+        b"\x01\0\0\0\x3c\0\x04\x06\x08\x05\x02",
     );
 }
 
@@ -144,6 +159,45 @@ fn withdrawals() {
     show_sheet(
         b"sheet, emptied bins of every class\n",
         b"\x01\0\0\0\x3c\0\x04\x06\x02\0\0\0\x1f\x02\0\0\0\x19\x02\0\0\0\x16\x02\0\0\0\x14\x04\0\x01\x04\0\x02\x04\0\x03\x04\0\x04\x02\0\0\0\x15",
+    );
+}
+
+// Two productions. Each numbers and counts its own bins, 05 answers also where it names the production that is current, and `T` is of both. The
+// commands' numbers run through both, and name only items of the own production. Each counts its own B2s: the sixth of all is the first of production
+// 1, so the next joins it there, and the sixth of production 0 joins no B2.
+fn productions() {
+    show(
+        b"own bins\n",
+        b"\x01\0\0\0\x3c\0\x08\x06\x05\0\x02\0\0\0\x1f\x02\0\0\0\x1f\x05\x01\x03\x02\0\0\0\x1f\x03\x05\0\x03\x02\0\0\0\x1f",
+    );
+    show(
+        b"17, of the other production\n",
+        b"\x01\0\0\0\x3c\0\x08\x06\x02\0\0\0\x1f\x05\x01\x02\0\0\0\x28\x04\0\x01\x04\0\x02\x04\0\x03\x05\0\x04\0\x03\x04\0\x01",
+    );
+    show(
+        b"own B2s\n",
+        b"\x01\0\0\0\x3c\0\x08\x06\x02\0\0\0\x16\x02\0\0\0\x16\x02\0\0\0\x16\x02\0\0\0\x16\x02\0\0\0\x16\x05\x01\x02\0\0\0\x16\x02\0\0\0\x16\x05\0\x02\0\0\0\x16\x02\0\0\0\x16",
+    );
+}
+
+// One stock. It is spent when both together have opened it, whoever asks next; an item still goes where there is space for it, and never to a bin of
+// the other production. A bin that is emptied stays opened for both. On the sheet each production starts a page, and has none without a bin.
+fn one_stock() {
+    show(
+        b"10, spent by both\n",
+        b"\x01\0\0\0\x3c\0\x03\x06\x02\0\0\0\x3c\x05\x01\x02\0\0\0\x14\x02\0\0\0\x3c\x02\0\0\0\x3c\x02\0\0\0\x14\x05\0\x02\0\0\0\x14\x03",
+    );
+    show_sheet(
+        b"sheet, spent by both\n",
+        b"\x01\0\0\0\x3c\0\x03\x06\x02\0\0\0\x3c\x05\x01\x02\0\0\0\x14\x02\0\0\0\x3c\x02\0\0\0\x3c\x02\0\0\0\x14\x05\0\x02\0\0\0\x14\x03",
+    );
+    show(
+        b"emptied, stock spent for the other\n",
+        b"\x01\0\0\0\x3c\0\x01\x06\x02\0\0\0\x3c\x04\0\x01\x05\x01\x02\0\0\0\x3c\x05\0\x02\0\0\0\x3c",
+    );
+    show_sheet(
+        b"sheet, production 1 alone\n",
+        b"\x01\0\0\0\x3c\0\x04\x06\x02\0\0\0\0\x05\x01\x02\0\0\0\x16\x02\0\0\0\x23",
     );
 }
 
@@ -223,9 +277,26 @@ fn commands() {
     show(b"6 before 3\n", front(&s, cut));
     let second = put(&mut s, most, 1);
     show(b"6 before 4\n", front(&s, second));
+    let third = fill(&mut s, most, 2, b"\x05\x02");
+    show(b"6 before 18\n", front(&s, third));
     let faulty = put(&mut s, first, 8);
     let later = fill(&mut s, faulty, 4096, b"\x03");
     show(b"2 before 6, the earlier command\n", front(&s, later));
+}
+
+// As many commands that name a production as there may be; and a stock that two productions spend by turns, an item each.
+fn turns() {
+    let mut s = [0u8; SPACE];
+    let first = fill(&mut s, 0, 8, b"\x01\0\0\0\x3c\x02\0\x06");
+    let most = fill(&mut s, first, 8192, b"\x05\x01");
+    show_end(b"4096 times production 1\n", front(&s, most), 15);
+    let most = fill(
+        &mut s,
+        first,
+        14336,
+        b"\x02\0\0\0\x3c\x05\x01\x02\0\0\0\x3c\x05\0",
+    );
+    show_end(b"2048 items of 60 by turns\n", front(&s, most), 29);
 }
 
 // As many items as there may be; a stream as long as it may be, and one byte longer; as many items in one bin, whose lines are longer.
@@ -278,16 +349,31 @@ fn long_sheets() {
     show_sheet(b"sheet, 4096 held\n", front(&s, 20488));
 }
 
+// Pages run on: 50 bins of production 0, one of production 1, and two more of production 0, which stand on its second page before the other's first.
+fn both_sheets() {
+    let mut s = [0u8; SPACE];
+    let first = fill(&mut s, 0, 8, b"\x01\0\0\0\x3c\x02\0\x06");
+    let page = fill(&mut s, first, 250, b"\x02\0\0\0\x3c");
+    let other = fill(&mut s, page, 7, b"\x05\x01\x02\0\0\0\x3b");
+    let back = fill(&mut s, other, 2, b"\x05\0");
+    let end = fill(&mut s, back, 10, b"\x02\0\0\0\x3c");
+    show_sheet(b"sheet, 52 and 1 opened\n", front(&s, end));
+}
+
 fn main() {
     refusals();
     orders();
     limits();
     answers();
     withdrawals();
+    productions();
+    one_stock();
     trailers();
     openings();
     commands();
+    turns();
     lengths();
     short_sheets();
     long_sheets();
+    both_sheets();
 }

@@ -1,4 +1,4 @@
--- The ways out of a withdrawal, each a law over what the code knows there.
+-- The ways out of a withdrawal, each a law over what the code knows there, whatever is left of the stock.
 use mathlib.Core.Path.{_≡_, refl, sym, ap, _∙_}
 use mathlib.Core.Logic.{inr}
 use mathlib.Core.Bool.{true, false}
@@ -89,9 +89,9 @@ module _ {o : Opening} {shape : Shape} {named : ℕ} {t : List ℕ} {ledger note
               omega (arith, h .sound .index .leaf (classIn row) place (class .1) within, offers-most (classIn row) (rowAt ledger place), ap freeIn (d .row-is));
         }
 
-    module _ {u : List ℕ} (shown : Shown shape t place row u) (number : ℕ) where
+    module _ {u : List ℕ} (shown : Shown shape t place row u) (number left : ℕ) where
       modelled : (p : Packing) → Represents o (store t ledger notes c) p
-          → Modelled o number (Withdraw named) (Withdrawn (binIn (noteAt notes named)) (freeIn row)) (store u ledger′ (set notes named unnoted) (withdrawing c)) p
+          → Modelled o left number (Withdraw named) (Withdrawn (binIn (noteAt notes named)) (freeIn row)) (store u ledger′ (set notes named unnoted) (withdrawing c)) p
       unfolding without
       modelled p r =
           let first = present named (r .noted) place there in
@@ -112,7 +112,7 @@ module _ {o : Opening} {shape : Shape} {named : ℕ} {t : List ℕ} {ledger note
                 });
           }
 
-      pub done-withdrawn : Done o shape (store t ledger notes c) number (Withdraw named) (answering number (Withdrawn (binIn (noteAt notes named)) (freeIn row)))
+      pub done-withdrawn : Done o left shape (store t ledger notes c) number (Withdraw named) (answering number (Withdrawn (binIn (noteAt notes named)) (freeIn row)))
           (store u ledger′ (set notes named unnoted) (withdrawing c))
       done-withdrawn =
           let sound = h .sound in
@@ -127,7 +127,7 @@ module _ {o : Opening} {shape : Shape} {named : ℕ} {t : List ℕ} {ledger note
               within = sound .within;
               phase = sound .phase;
               b2 = sound .b2;
-              packing = next o (sound .packing) number (Withdraw named);
+              packing = next o left (sound .packing) number (Withdraw named);
               represents = modelled (sound .packing) then .represents;
             };
             numbered = refl;

@@ -1,5 +1,6 @@
 // "Withdrawn masters": command 04 takes out the item that the command of another number shelved. The note of that number tells where it lies, so there is
-// no search and no walk: one row of the ledger is written, one note, and the row is shown in the trees.
+// no search and no walk: one row of the ledger is written, one note, and the row is shown in the trees. It opens no bin, so its contracts hold whatever is
+// left of the stock.
 use aim::Counters;
 use engine::Answered;
 use ledger::BINS;
@@ -15,6 +16,7 @@ use packing::Opening;
 use packing::Outcome;
 use tournament::ROW_WORDS;
 use tournament::Shape;
+ghost use Prim.Native.Nat.{ℕ};
 ghost use Rattle.packing.specs.declared.Command.the-variants.{Withdraw};
 ghost use Rattle.engine.specs.Store.{store, Sound};
 ghost use Rattle.engine.specs.Done.{Done};
@@ -32,7 +34,7 @@ fn take_out(
     named: u32,
 ) -> Answered
     requires { ⌜ Lies opening shape named (store (now trees) (now ledger) (now notes) counters) ⌝ }
-    ensures { λ r. ⌜ Done opening shape (store (now (trees .entry)) (now (ledger .entry)) (now (notes .entry)) counters) number (Withdraw named) (r .answer) (store (now (trees .exit)) (now (ledger .exit)) (now (notes .exit)) (r .next)) ⌝ }
+    ensures { λ r. ⌜ ((left : ℕ) → Done opening left shape (store (now (trees .entry)) (now (ledger .entry)) (now (notes .entry)) counters) number (Withdraw named) (r .answer) (store (now (trees .exit)) (now (ledger .exit)) (now (notes .exit)) (r .next))) ⌝ }
 {
     let row_named = named as usize;
     let note = notes[row_named];
@@ -67,7 +69,7 @@ pub fn withdraw(
     named: u32,
 ) -> Answered
     requires { ⌜ Sound opening shape (store (now trees) (now ledger) (now notes) counters) ⌝ }
-    ensures { λ r. ⌜ Done opening shape (store (now (trees .entry)) (now (ledger .entry)) (now (notes .entry)) counters) number (Withdraw named) (r .answer) (store (now (trees .exit)) (now (ledger .exit)) (now (notes .exit)) (r .next)) ⌝ }
+    ensures { λ r. ⌜ ((left : ℕ) → Done opening left shape (store (now (trees .entry)) (now (ledger .entry)) (now (notes .entry)) counters) number (Withdraw named) (r .answer) (store (now (trees .exit)) (now (ledger .exit)) (now (notes .exit)) (r .next))) ⌝ }
 {
     let place = named as usize;
     if NUMBERS <= place {

@@ -1,4 +1,4 @@
--- What the shelf's own plan puts into a bin is never above the capacity: it is the total of the sizes still shelved and answered its number (packing,
+-- What a production's own plan puts into a bin is never above the capacity: it is the total of the sizes still shelved and answered its number (packing,
 -- Holding).
 use Prim.Native.Nat.{ℕ, _+_, _≤_}
 use mathlib.Core.Path.{_≡_, refl}
@@ -6,7 +6,7 @@ use mathlib.Core.Bool.{Bool, true, false}
 use mathlib.Core.List.{List, [], _∷_, map}
 use native.Mathlib.Omega.{arith}
 use lib.Dec.{eqb}
-use Rattle.packing.specs.declared.{Opening.Opening, Command.Command, Entry.Entry}
+use Rattle.packing.specs.declared.{Opening.Opening, Production.Production, Command.Command, Entry.Entry}
 use Rattle.packing.specs.Prelude.{if_then_else_, total, keep}
 use Rattle.packing.specs.Plans.{onBin}
 use Rattle.packing.specs.Compared.{shelfPlan, sizesIn}
@@ -23,5 +23,5 @@ on-bin-is n (e ∷ es) = go (eqb (e .bin) n) (on-bin-is n es)
     go true r = omega arith
     go false r = omega arith
 
-pub shelf-on-bin : (o : Opening) (cs : List Command) (n : ℕ) → onBin n (shelfPlan o cs) ≤ o .capacity
-shelf-on-bin o cs n = omega (arith, on-bin-is n (shelfPlan o cs), shown-few o cs n)
+pub shelf-on-bin : (o : Opening) (q : Production) (cs : List Command) (n : ℕ) → onBin n (shelfPlan o q cs) ≤ o .capacity
+shelf-on-bin o q cs n = omega (arith, on-bin-is n (shelfPlan o q cs), shown-few o q cs n)

@@ -3,7 +3,7 @@
 use Prim.Native.Nat.{ℕ, suc, _+_, _%_, _≤_, _<_}
 use mathlib.Core.Path.{_≡_, refl, subst}
 use mathlib.Core.Bool.{Bool, true, false, true≢false}
-use mathlib.Core.List.{List, [], map, List·Memᴰ·not-nil}
+use mathlib.Core.List.{List, [], List·Memᴰ·not-nil}
 use native.Mathlib.Omega.{arith}
 use borrow.Author.Tests.{eqb-true, eqb-false}
 use lib.Dec.{eqb}
@@ -18,7 +18,7 @@ use Rattle.packing.specs.Run.{item, Step}
 use Rattle.packing.specs.Claims.{Bounds}
 use Rattle.packing.proofs.SizeClasses.{class-bounds}
 use Rattle.packing.proofs.Putting.{fresh, put-each}
-use Rattle.packing.proofs.Moves.{places, withdraws, counts, refuses, Trace, ends, moves}
+use Rattle.packing.proofs.Moves.{places, withdraws, counts, switches, refuses, Trace, ends, moves}
 use Rattle.worst_case.proofs.Lists.{weighs}
 use Rattle.worst_case.proofs.ByBounds.{b2}
 use Rattle.worst_case.proofs.OneKind.{OneKind, one-kind-kept}
@@ -121,14 +121,15 @@ module _ (o : Opening) (some : 1 ≤ o .m) where
   placed-kept p i r = kept o i (p .bins) (p .b2s) r some (kind o i) refl (class-bounds (o .capacity) (i .size))
 
   -- An item that is taken out would leave a bin that first fit did not fill: so no step takes one out.
-  trace-kept : {n : ℕ} {p q : Packing} {ts : List Step} → Trace o n p ts q → any isWithdrawn (map (λ t. t .outcome) ts) ≡ false → InvOf p → InvOf q
+  trace-kept : {n end : ℕ} {p q : Packing} {ts : List Step} → Trace o n p ts end q → any (λ t. isWithdrawn (t .outcome)) ts ≡ false → InvOf p → InvOf q
   unfolding any
-  trace-kept ends e h = h
-  trace-kept (moves {n = n} {p = p} (places {s = s} a) r) e h = trace-kept r e (placed-kept p (item n (stored o s)) h)
-  trace-kept (moves (withdraws x) r) e h = absurd (true≢false e)
-  trace-kept (moves counts r) e h = trace-kept r e h
-  trace-kept (moves (refuses z) r) e h = trace-kept r e h
+  trace-kept (ends l) e h = h
+  trace-kept (moves {k = k} {p = p} l few (places {s = s} a) r) e h = trace-kept r e (placed-kept p (item k (stored o s)) h)
+  trace-kept (moves l few (withdraws x) r) e h = absurd (true≢false e)
+  trace-kept (moves l few counts r) e h = trace-kept r e h
+  trace-kept (moves l few switches r) e h = trace-kept r e h
+  trace-kept (moves l few (refuses z) r) e h = trace-kept r e h
 
-  pub trace-invariant : {n : ℕ} {q : Packing} {ts : List Step} → Trace o n empty ts q → any isWithdrawn (map (λ t. t .outcome) ts) ≡ false
+  pub trace-invariant : {n end : ℕ} {q : Packing} {ts : List Step} → Trace o n empty ts end q → any (λ t. isWithdrawn (t .outcome)) ts ≡ false
       → Inv (o .capacity) (o .m) (q .bins) (q .b2s)
   trace-invariant r e = trace-kept r e (inv-empty (o .capacity) (o .m) some)

@@ -1,5 +1,6 @@
--- The bound of a trace in which nothing is taken out. From the empty packing it reaches one with the invariant. Its items weigh what the items of any plan
--- that passes weigh, so the bound of one packing applies. Every theorem that compares a packing with a plan is a corollary.
+-- The bound of a trace, which is of one production, in which nothing is taken out. From the empty packing it reaches one with the invariant. Its items
+-- weigh what the items of any plan that passes weigh, so the bound of one packing applies. Every theorem that compares a packing with a plan is a
+-- corollary.
 use Prim.Native.Nat.{ℕ, _+_, _*_, _≤_}
 use mathlib.Core.Path.{_≡_, sym, ap, _∙_}
 use mathlib.Core.Bool.{true, false}
@@ -26,7 +27,7 @@ use Rattle.worst_case.proofs.FourClasses.{ofSize}
 use Rattle.worst_case.proofs.Invariant.{trace-invariant}
 use Rattle.worst_case.proofs.Bound.{Weighed, bound}
 
-module _ (o : Opening) {q : Packing} {ts : List Step} (r : Trace o 1 empty ts q) (none : any isWithdrawn (map (λ t. t .outcome) ts) ≡ false) where
+module _ (o : Opening) {e : ℕ} {q : Packing} {ts : List Step} (r : Trace o 1 empty ts e q) (none : any (λ t. isWithdrawn (t .outcome)) ts ≡ false) where
   -- The sizes of the items that it places.
   abbrev sizes : List ℕ
   sizes = map (λ e. e .size) (entriesOf o ts)

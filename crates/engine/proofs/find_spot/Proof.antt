@@ -53,11 +53,8 @@ sub-free c = omega (arith, c .value .ensures, lowest (c .before) .enough)
 enum-told : tie.Need-enum-told
 enum-told c = search needs
 
-cast-stock : tie.Need-cast-stock
-cast-stock c = search needs
-
 returns : tie.Need-returns
-returns c = rw (none (c .before .before), le-leb _ _ (c .if1 .taken))
+returns c = rw (none (c .before), le-leb _ _ (c .if1 .taken))
 
 sub-free-2 : tie.Need-sub-free-2
 sub-free-2 c = search needs
@@ -69,9 +66,9 @@ returns-2 : tie.Need-returns-2
 returns-2 c = rw (first (c .before), c .value .ensures)
 
 returns-3 : tie.Need-returns-3
-returns-3 c = rw (none (c .before .before), lt-leb _ _ (c .if1 .left))
+returns-3 c = rw (none (c .before), lt-leb _ _ (c .if1 .left))
 
 pub find-spot-spec : {M : Type 1} → statement M
 find-spot-spec =
     tie.close
-    (tie.spec mul-base search-requires enum-known-found value-requires sub-free enum-told cast-stock returns sub-free-2 add-opened returns-2 returns-3)
+    (tie.spec mul-base search-requires enum-known-found value-requires sub-free enum-told returns sub-free-2 add-opened returns-2 returns-3)

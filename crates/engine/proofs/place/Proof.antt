@@ -51,7 +51,7 @@ returns-2 : tie.Need-returns-2
 returns-2 c =
     let below = c .before .before in
     rw (c .refuse .ensures)
-    (done-refused (start (below .before) .pre .sound) (λ p r. refused-so _ p _ _ (decides _ p _ _ _ (is-zero (c .before .if2 .taken)))))
+    (done-refused (start (below .before) .pre .sound) (λ p r. refused-so _ _ p _ _ (decides _ p _ _ _ _ (is-zero (c .before .if2 .taken)))))
 
 refuse-requires-2 : tie.Need-refuse-requires-2
 refuse-requires-2 c κs = search needs
@@ -62,7 +62,7 @@ returns-3 c =
     let some = c .before .if2 .left in
     rw (c .refuse2 .ensures)
     (done-refused (start (above .before) .pre .sound)
-    (λ p r. refused-so _ p _ _ (decides _ p _ _ _ (is-above (omega (arith, some)) (too-large (start (above .before) .args .opening) _ (tested (above .before) ∙ above .if1 .left) some)))))
+    (λ p r. refused-so _ _ p _ _ (decides _ p _ _ _ _ (is-above (omega (arith, some)) (too-large (start (above .before) .args .opening) _ (tested (above .before) ∙ above .if1 .left) some)))))
 
 pub place-spec : {M : Type 1} → statement M
 place-spec =

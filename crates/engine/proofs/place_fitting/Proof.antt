@@ -42,12 +42,12 @@ module _ (e : tie.After-tree-for) where
 
   -- What the search says of the item, by what it has for it.
   abbrev Said : Offer → Type 0
-  Said = Says (start .args .opening) (start .args .shape) (store (start .args .trees .now) (start .args .ledger .now) (start .args .notes .now) (start .args .counters)) (start .args .number) size (e .tree-for .result)
+  Said = Says (start .args .opening) (start .args .left) (start .args .shape) (store (start .args .trees .now) (start .args .ledger .now) (start .args .notes .now) (start .args .counters)) (start .args .number) size (e .tree-for .result)
 
   said : {offer : Offer}
-      → spotFor (start .args .opening) (start .args .shape) (start .args .trees .now) (start .args .counters .opened) (e .tree-for .result) size ≡ offer
+      → spotFor (start .args .opening) (start .args .left) (start .args .shape) (start .args .trees .now) (start .args .counters .opened) (e .tree-for .result) size ≡ offer
       → Said offer
-  said has = subst Said has (says aimed (start .args .number) sound)
+  said has = subst Said has (says aimed (start .args .left) (start .args .number) (start .pre .0 .left-few) sound)
 
 -- It has none.
 module _ (c : tie.After-enum-told) where
@@ -102,7 +102,7 @@ refuse-requires : tie.Need-refuse-requires
 refuse-requires c κs = search needs
 
 returns : tie.Need-returns
-returns c = rw (c .refuse .ensures) (done-refused (sound (missed (c .before))) (λ p r. refused-so _ p _ _ (none (c .before) p r _ (start (missed (c .before)) .pre .1 .0))))
+returns c = rw (c .refuse .ensures) (done-refused (sound (missed (c .before))) (λ p r. refused-so _ _ p _ _ (none (c .before) p r _ (start (missed (c .before)) .pre .1 .0))))
 
 home-of-requires : tie.Need-home-of-requires
 home-of-requires c κs = search needs

@@ -5,8 +5,9 @@ use Prim.Native.Nat.{ℕ}
 use native.Mathlib.Omega.{arith}
 use borrow.Author.Needs.{needs}
 use borrow.Author.Tests.{eq-eqb, ne-eqb}
-use Rattle.packing.specs.declared.{Command.Command}
-use Rattle.packing.specs.declared.Command.the-variants.{Shelve, Withdraw, Count}
+use Rattle.packing.specs.declared.{Command.Command, Production.Production}
+use Rattle.packing.specs.declared.Command.the-variants.{Shelve, Withdraw, Switch, Count}
+use Rattle.packing.specs.Productions.{productionOf}
 use Rattle.packing.specs.Streams.{widths, lookup, operand}
 use Rattle.fronts.specs.declared.{WholeCommand.WholeCommand}
 use Rattle.fronts.specs.Fronts.{tableWidth, CommandThere, commandWith}
@@ -17,7 +18,7 @@ use Rattle.fronts.proofs.command_of.Tie as tie
 abbrev with : Command → ℕ → WholeCommand
 with c width = record { command = c; width = width }
 
--- An item, a withdrawal and a count, each with the width of its opcode.
+-- An item, a withdrawal, the production of the commands after it and a count, each with the width of its opcode.
 module _ (opcode : ℕ) (s : List ℕ) where
   is-item : (size width : ℕ) → opcode ≡ 2 → size ≡ operand 1 4 s → width ≡ tableWidth 2 → with (Shelve size) width ≡ commandWith opcode s
   is-item size width e f g = rw (eq-eqb opcode 2 e, f, g, ap tableWidth e)
@@ -25,8 +26,14 @@ module _ (opcode : ℕ) (s : List ℕ) where
   is-withdrawal : (named width : ℕ) → (opcode ≡ 2 → ⊥) → opcode ≡ 4 → named ≡ operand 1 2 s → width ≡ tableWidth 4 → with (Withdraw named) width ≡ commandWith opcode s
   is-withdrawal named width z e f g = rw (ne-eqb opcode 2 z, eq-eqb opcode 4 e, f, g, ap tableWidth e)
 
-  is-count : (width : ℕ) → CommandThere opcode s → (opcode ≡ 2 → ⊥) → (opcode ≡ 4 → ⊥) → width ≡ tableWidth 3 → with Count width ≡ commandWith opcode s
-  is-count width there z y g = rw (ne-eqb opcode 2 z, ne-eqb opcode 4 y, g, ap tableWidth (only-count opcode _ (there .in-table) (there .no-opening) z y))
+  is-switch : (number width : ℕ) (r : Production) → (opcode ≡ 2 → ⊥) → (opcode ≡ 4 → ⊥) → opcode ≡ 5 → number ≡ operand 1 1 s → r ≡ productionOf number
+      → width ≡ tableWidth 5 → with (Switch r) width ≡ commandWith opcode s
+  is-switch number width r z y e f p g = rw (ne-eqb opcode 2 z, ne-eqb opcode 4 y, eq-eqb opcode 5 e, p, f, g, ap tableWidth e)
+
+  is-count : (width : ℕ) → CommandThere opcode s → (opcode ≡ 2 → ⊥) → (opcode ≡ 4 → ⊥) → (opcode ≡ 5 → ⊥) → width ≡ tableWidth 3
+      → with Count width ≡ commandWith opcode s
+  is-count width there z y x g =
+      rw (ne-eqb opcode 2 z, ne-eqb opcode 4 y, ne-eqb opcode 5 x, g, ap tableWidth (only-count opcode _ (there .in-table) (there .no-opening) z y x))
 
 operand-requires : tie.Need-operand-requires
 unfolding widths lookup
@@ -50,15 +57,34 @@ returns-2 c =
     let there = c .before .before in
     is-withdrawal _ (there .before .before .before .args .rest .now) _ _ (there .before .if1 .left) (there .if2 .taken) (c .before .operand2 .ensures .value) (c .table-width2 .ensures)
 
+operand-requires-3 : tie.Need-operand-requires-3
+unfolding widths lookup
+operand-requires-3 c κs = record { narrow = omega arith; inside = omega (arith, ap tableWidth (c .if3 .taken), c .before .before .before .before .pre .inside) }
+
+production-of-requires : tie.Need-production-of-requires
+production-of-requires c κs = search needs
+
 table-width-requires-3 : tie.Need-table-width-requires-3
 table-width-requires-3 c κs = search needs
 
 returns-3 : tie.Need-returns-3
 returns-3 c =
-    let start = c .before .before .before .before in
-    is-count _ (start .args .rest .now) _ (start .pre) (c .before .before .if1 .left) (c .before .if2 .left) (c .table-width3 .ensures)
+    let there = c .before .before .before in
+    let other = there .before in
+    is-switch _ (other .before .before .before .args .rest .now) _ _ _ (other .before .if1 .left) (other .if2 .left) (there .if3 .taken)
+    (c .before .before .operand3 .ensures .value) (c .before .production-of .ensures) (c .table-width3 .ensures)
+
+table-width-requires-4 : tie.Need-table-width-requires-4
+table-width-requires-4 c κs = search needs
+
+returns-4 : tie.Need-returns-4
+returns-4 c =
+    let other = c .before .before in
+    let start = other .before .before .before in
+    is-count _ (start .args .rest .now) _ (start .pre) (other .before .if1 .left) (other .if2 .left) (c .before .if3 .left) (c .table-width4 .ensures)
 
 pub command-of-spec : {M : Type 1} → statement M
 command-of-spec =
     tie.close
-    (tie.spec operand-requires table-width-requires returns operand-requires-2 table-width-requires-2 returns-2 table-width-requires-3 returns-3)
+    (tie.spec operand-requires table-width-requires returns operand-requires-2 table-width-requires-2 returns-2
+    operand-requires-3 production-of-requires table-width-requires-3 returns-3 table-width-requires-4 returns-4)

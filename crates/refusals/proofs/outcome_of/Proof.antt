@@ -18,6 +18,12 @@ enum-told-3 c = search needs
 unless-refused-requires-2 : tie.Need-unless-refused-requires-2
 unless-refused-requires-2 c κs = search needs
 
+enum-told-4 : tie.Need-enum-told-4
+enum-told-4 c = search needs
+
+production-of-requires : tie.Need-production-of-requires
+production-of-requires c κs = search needs
+
 returns : tie.Need-returns
 returns c = rw (c .before .enum-told .given .1) (c .unless-refused .ensures)
 
@@ -27,7 +33,11 @@ returns-2 c = rw (c .enum-told2 .given .1)
 returns-3 : tie.Need-returns-3
 returns-3 c = rw (c .before .enum-told3 .given .1) (c .unless-refused2 .ensures)
 
+returns-4 : tie.Need-returns-4
+returns-4 c = rw (c .before .enum-told4 .given .1, c .production-of .ensures)
+
 pub outcome-of-spec : {M : Type 1} → statement M
 outcome-of-spec =
     tie.close
-    (tie.spec enum-told unless-refused-requires enum-told-2 enum-told-3 unless-refused-requires-2 returns returns-2 returns-3)
+    (tie.spec enum-told unless-refused-requires enum-told-2 enum-told-3 unless-refused-requires-2 enum-told-4 production-of-requires
+    returns returns-2 returns-3 returns-4)

@@ -6,13 +6,13 @@ use Rattle.stream.proofs.Shelved.{Shelved, shelved, shelved-opening}
 use Rattle.report.specs.Lines.{refusal}
 use Rattle.report.proofs.Texts.{printing-long, printing-refused}
 use Rattle.sheet.specs.Sheet.{sheetText, sheet}
-use Rattle.sheet.proofs.Shelved.{shelved-legible, shelved-text}
+use Rattle.sheet.proofs.Shelved.{shelved-sheetable, shelved-sheet}
 use Rattle.sheet.proofs.print.Statement.{statement}
 use Rattle.sheet.proofs.print.Tie as tie
 
 -- The entry, from where the stream is read.
 abbrev start : tie.After-record → tie.Start
-start c = c .before .before .before .before .before .before
+start c = c .before .before .before .before .before .before .before
 
 put-overlong-requires : tie.Need-put-overlong-requires
 put-overlong-requires c κs = search needs
@@ -41,37 +41,38 @@ refused-printed : (c : tie.After-reason)
 unfolding sheet
 refused-printed c =
     let r = c .before .before .before .before in
-    printing-refused sheetText (start r .args .stream .now) (r .before .before .before .before .if1 .left) _ _ (sym (c .reason .given .1) ∙ r .«record» .ensures .0)
+    printing-refused sheetText (start r .args .stream .now) (r .before .before .before .before .before .if1 .left) _ _ (sym (c .reason .given .1) ∙ r .«record» .ensures .0)
 
 put-refusal-requires : tie.Need-put-refusal-requires
 put-refusal-requires c κs = search needs
 
-enum-known-opened : tie.Need-enum-known-opened
-enum-known-opened c = search needs
+enum-told : tie.Need-enum-told
+enum-told c = search needs
 
--- An accepted stream: what is returned of it, and its ledger.
-the-shelf : (c : tie.After-opened)
-    → let r = c .before .before .before .before in Shelved (start r .args .stream .now) (r .«record» .last .1 .1 .1 .0) (c .opened .given .0 .1 .0)
+-- An accepted stream: its ledgers.
+the-shelf : (c : tie.After-enum-told)
+    → let r = c .before .before .before .before in Shelved (start r .args .stream .now) (r .«record» .last .1 .1 .1 .0) (r .«record» .last .1 .1 .1 .1 .0)
 the-shelf c =
     let r = c .before .before .before .before in
-    shelved (sym (c .opened .given .1) ∙ r .«record» .ensures .0) (r .«record» .ensures .1 .1 .1)
+    shelved (sym (c .enum-told .given .1) ∙ r .«record» .ensures .0) (r .«record» .ensures .1 .1 .1)
 
 opening-of-requires : tie.Need-opening-of-requires
-opening-of-requires c κs = shelved-opening (the-shelf (c .before))
+opening-of-requires c κs = shelved-opening (the-shelf c)
 
-put-lines-requires : tie.Need-put-lines-requires
-put-lines-requires c κs =
-    let p = c .before .before in
-    shelved-legible (the-shelf (p .before .before)) (p .opening-of .result) (p .opening-of .ensures) _ (omega (arith, c .put-lines-arg .given .0 .1))
+put-both-requires : tie.Need-put-both-requires
+put-both-requires c κs =
+    let p = c .before .before .before in
+    shelved-sheetable (the-shelf (p .before)) (p .opening-of .result) (p .opening-of .ensures) _ (omega (arith, c .put-both-arg .given .0 .1))
 
 returns-2 : tie.Need-returns-2
 returns-2 c = rw (refused-printed (c .before .before .before)) (c .put-refusal .ensures)
 
 returns-3 : tie.Need-returns-3
 returns-3 c =
-    let p = c .before .before .before in
-    let o = p .before .before in
-    rw (shelved-text (the-shelf o) (p .opening-of .result) (p .opening-of .ensures) (o .before .before .before .before .before .before .before .before .if1 .left)) (c .put-lines .ensures)
+    let p = c .before .before .before .before in
+    let o = p .before in
+    let r = o .before .before .before .before in
+    shelved-sheet (the-shelf o) (p .opening-of .result) (p .opening-of .ensures) (r .before .before .before .before .before .if1 .left) _ _ _ (c .put-both .ensures)
 
 pub print-spec : {M : Type 1} → statement M
 print-spec =
@@ -84,8 +85,8 @@ print-spec =
     record-requires
     enum-known-reason
     put-refusal-requires
-    enum-known-opened
+    enum-told
     opening-of-requires
-    put-lines-requires
+    put-both-requires
     returns-2
     returns-3)

@@ -4,7 +4,8 @@ use Prim.Native.Nat.{ℕ}
 use borrow.Author.Needs.{needs}
 use Rattle.packing.specs.Refusals.{streamGives}
 use Rattle.packing.specs.Streams.{wordsLent}
-use Rattle.packing.proofs.Theorems.{holds-answered, never-overfull, lowest-permitted, free-units, loads-add-up, by-stored-sizes, withdrawals, answers-in-range, refused-left-out, counts}
+use Rattle.packing.proofs.Theorems.{holds-answered, never-overfull, lowest-permitted, free-units, loads-add-up, by-stored-sizes, withdrawals, stays, answers-in-range, refused-left-out}
+use Rattle.packing.proofs.Theorems.{opened, counts, productions, independent-streams}
 use Rattle.worst_case.proofs.OwnPlan.{own-plan-of-stream}
 use Rattle.worst_case.proofs.WorstCase.{worst-case-of-stream}
 use Rattle.shelf.proofs.shelve.Statement.{statement}
@@ -35,26 +36,38 @@ returns c =
           (
             λ o cs e. counts o cs,
             (
-              λ o cs e. holds-answered o cs,
+              λ o cs e q. opened o q cs,
               (
-                λ o cs e. never-overfull o cs,
+                λ o cs e. productions o cs,
                 (
-                  λ o cs e. lowest-permitted o cs,
+                  λ r other more. independent-streams r stream other (words s) more,
                   (
-                    λ o cs e. free-units o cs,
+                    λ o cs e q. holds-answered o q cs,
                     (
-                      λ o cs e. loads-add-up o cs,
+                      λ o cs e q. never-overfull o q cs,
                       (
-                        λ o cs e. by-stored-sizes o cs,
+                        λ o cs e. lowest-permitted o cs,
                         (
-                          λ o cs e. withdrawals o cs,
+                          λ o cs e q. free-units o q cs,
                           (
-                            λ o cs e. answers-in-range o cs,
+                            λ o cs e q. loads-add-up o q cs,
                             (
-                              λ o cs e. refused-left-out o cs,
+                              λ o cs e. by-stored-sizes o cs,
                               (
-                                own-plan-of-stream stream (words s),
-                                worst-case-of-stream stream (words s),
+                                λ o cs e. withdrawals o cs,
+                                (
+                                  λ o cs e q. stays o q cs,
+                                  (
+                                    λ o cs e q. answers-in-range o q cs,
+                                    (
+                                      λ o cs e. refused-left-out o cs,
+                                      (
+                                        λ o cs e q. own-plan-of-stream stream (words s) o q cs e,
+                                        λ o cs e q. worst-case-of-stream stream (words s) o q cs e,
+                                      ),
+                                    ),
+                                  ),
+                                ),
                               ),
                             ),
                           ),

@@ -58,12 +58,12 @@ show-freed-requires c κs =
     freed (marked .before .before .pre) (rw (marked .a-of .ensures, only-a) at (leaves .leave .ensures))
 
 returns : tie.Need-returns
-returns c =
+returns c left =
     let leaves = c .before .before in
     let counted = leaves .before .before in
     let marked = counted .before in
     rw (counted .withdraw .ensures)
-    (done-withdrawn (marked .before .before .pre) (rw (marked .a-of .ensures, only-a) at (leaves .leave .ensures)) (c .show-freed .ensures) _)
+    (done-withdrawn (marked .before .before .pre) (rw (marked .a-of .ensures, only-a) at (leaves .leave .ensures)) (c .show-freed .ensures) _ left)
 
 pub take-out-spec : {M : Type 1} → statement M
 take-out-spec =

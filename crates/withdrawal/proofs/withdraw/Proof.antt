@@ -10,7 +10,7 @@ refuse-requires : tie.Need-refuse-requires
 refuse-requires c κs = search needs
 
 returns : tie.Need-returns
-returns c = rw (c .refuse .ensures) (done-refused (c .before .before .pre) (λ p r. past-notes r _ (c .before .if1 .taken)))
+returns c left = rw (c .refuse .ensures) (done-refused (c .before .before .pre) (λ p r. past-notes r _ (c .before .if1 .taken)))
 
 mul-note : tie.Need-mul-note
 mul-note c = search needs
@@ -25,7 +25,7 @@ refuse-requires-2 : tie.Need-refuse-requires-2
 refuse-requires-2 c κs = search needs
 
 returns-2 : tie.Need-returns-2
-returns-2 c =
+returns-2 c left =
     let start = c .before .before .before .before in
     rw (c .refuse2 .ensures) (done-refused (start .pre) (λ p r. no-bin r _ (c .before .if2 .taken)))
 

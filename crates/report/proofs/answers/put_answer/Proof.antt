@@ -22,10 +22,15 @@ counted c = ap (lineOf (c .before .before .before .args .answer .number)) (c .ou
 withdrawn : (c : tie.After-outcome3) → let a = c .before .before .before .args .answer in answerLine a ≡ line (code "O") (a .number ∷ c .outcome3 .given .0 .0 ∷ [])
 withdrawn c = ap (lineOf (c .before .before .before .args .answer .number)) (c .outcome3 .given .1)
 
+switched : (c : tie.After-production-number) → let a = c .before .before .before .before .before .args .answer in answerLine a ≡ line (code "S") (a .number ∷ c .production-number .result ∷ [])
+switched c =
+    let a = c .before .before .before .before .before .args .answer in
+    ap (lineOf (a .number)) (c .before .before .outcome4 .given .1) ∙ ap (λ n. line (code "S") (a .number ∷ n ∷ [])) (sym (c .production-number .ensures))
+
 refused : (c : tie.After-item-number) → let a = c .before .before .before .before .before .args .answer in answerLine a ≡ line (code "R") (a .number ∷ c .item-number .result ∷ [])
 refused c =
     let a = c .before .before .before .before .before .args .answer in
-    ap (lineOf (a .number)) (c .before .before .outcome4 .given .1) ∙ ap (λ n. line (code "R") (a .number ∷ n ∷ [])) (sym (c .item-number .ensures))
+    ap (lineOf (a .number)) (c .before .before .outcome5 .given .1) ∙ ap (λ n. line (code "R") (a .number ∷ n ∷ [])) (sym (c .item-number .ensures))
 
 enum-known-outcome : tie.Need-enum-known-outcome
 enum-known-outcome c = search needs
@@ -75,17 +80,34 @@ put-line-requires-3 c κs =
 enum-known-outcome-4 : tie.Need-enum-known-outcome-4
 enum-known-outcome-4 c = search needs
 
-item-number-requires : tie.Need-item-number-requires
-item-number-requires c κs = search needs
+production-number-requires : tie.Need-production-number-requires
+production-number-requires c κs = search needs
 
-cast-refusal : tie.Need-cast-refusal
-cast-refusal c = search needs
+cast-production : tie.Need-cast-production
+cast-production c = search needs
 
 slice-aggregate-put-line-4 : tie.Need-slice-aggregate-put-line-4
 slice-aggregate-put-line-4 c = search needs
 
 put-line-requires-4 : tie.Need-put-line-requires-4
 put-line-requires-4 c κs =
+    let n = c .before .before in
+    rw (switched n) at (n .before .before .before .before .before .pre)
+
+enum-known-outcome-5 : tie.Need-enum-known-outcome-5
+enum-known-outcome-5 c = search needs
+
+item-number-requires : tie.Need-item-number-requires
+item-number-requires c κs = search needs
+
+cast-refusal : tie.Need-cast-refusal
+cast-refusal c = search needs
+
+slice-aggregate-put-line-5 : tie.Need-slice-aggregate-put-line-5
+slice-aggregate-put-line-5 c = search needs
+
+put-line-requires-5 : tie.Need-put-line-requires-5
+put-line-requires-5 c κs =
     let n = c .before .before in
     rw (refused n) at (n .before .before .before .before .before .pre)
 
@@ -119,11 +141,20 @@ same-length-4 c = search needs
 returns-4 : tie.Need-returns-4
 returns-4 c =
     let p = c .before .before in
-    rw (refused (p .before .before .before)) (p .put-line4 .ensures)
+    rw (switched (p .before .before .before)) (p .put-line4 .ensures)
+
+same-length-5 : tie.Need-same-length-5
+same-length-5 c = search needs
+
+returns-5 : tie.Need-returns-5
+returns-5 c =
+    let p = c .before .before in
+    rw (refused (p .before .before .before)) (p .put-line5 .ensures)
 
 pub put-answer-spec : {M : Type 1} → statement M
 put-answer-spec =
     tie.close
     (tie.spec enum-known-outcome cast-bin cast-free slice-aggregate-put-line put-line-requires enum-known-outcome-2 cast-opened slice-aggregate-put-line-2
-    put-line-requires-2 enum-known-outcome-3 cast-bin-2 slice-aggregate-put-line-3 put-line-requires-3 enum-known-outcome-4 item-number-requires cast-refusal
-    slice-aggregate-put-line-4 put-line-requires-4 same-length returns same-length-2 returns-2 same-length-3 returns-3 same-length-4 returns-4)
+    put-line-requires-2 enum-known-outcome-3 cast-bin-2 slice-aggregate-put-line-3 put-line-requires-3 enum-known-outcome-4 production-number-requires
+    cast-production slice-aggregate-put-line-4 put-line-requires-4 enum-known-outcome-5 item-number-requires cast-refusal slice-aggregate-put-line-5
+    put-line-requires-5 same-length returns same-length-2 returns-2 same-length-3 returns-3 same-length-4 returns-4 same-length-5 returns-5)
