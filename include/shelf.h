@@ -4,8 +4,8 @@
  * of it. For C99 and later, and for C++.
  *
  * Link with libshelf.a, for x86-64 Linux: `rt staticlib shelf` proves the
- * library and writes target/staticlib/libshelf.a. A call allocates nothing and
- * needs about 62 KB of stack (shelf_stream), 87 KB (shelf_sheet) or 17 KB
+ * library and writes target/staticlib/libshelf.a. A call allocates nothing; allow
+ * it 128 KB of stack (shelf_stream), 192 KB (shelf_sheet) or 17 KB
  * (shelf_check_plan).
  *
  * The calls are total: every input within the rules on pointers below has the
@@ -30,7 +30,7 @@
  * a row, a result or a refusal is added or changes. Header and libshelf.a must
  * be of one version: nothing checks it.
  */
-#define SHELF_VERSION 4
+#define SHELF_VERSION 5
 
 /*
  * Limits. Capacity, stock and sizes are at least 1; the trailer, and what is
@@ -45,8 +45,8 @@
 #define SHELF_MAX_ENTRIES 4096       /* of a plan; its masters; its k */
 #define SHELF_MAX_SHEET_STREAM 32768 /* bytes of a stream with a sheet */
 
-/* The most bytes of a sheet: 512 cartridge lines and 11 page lines of 41. */
-#define SHELF_SHEET_BYTES 21443
+/* The most bytes of a sheet: 512 cartridge lines and 12 page lines of 41. */
+#define SHELF_SHEET_BYTES 21484
 
 /* The numbers of the refusals, in all calls and in answer words. */
 enum {
@@ -70,7 +70,9 @@ enum {
     SHELF_REFUSAL_OVERFULL = 15,
     SHELF_REFUSAL_OTHER_ITEMS = 16,
     /* Of a withdrawal. */
-    SHELF_REFUSAL_NOT_SHELVED = 17
+    SHELF_REFUSAL_NOT_SHELVED = 17,
+    /* Of a stream again. */
+    SHELF_REFUSAL_NO_SUCH_PRODUCTION = 18
 };
 
 #ifdef __cplusplus
@@ -87,6 +89,7 @@ extern "C" {
  *                  02  size (4 bytes)                         shelve a master
  *                  03                                         count cartridges
  *                  04  command number (2 bytes)               take a master out
+ *                  05  production (1 byte), 0 or 1            switch to it
  *              The first command is an opening, of either kind, and there is no
  *              other. The commands after it are numbered from 1.
  * answers      answers_len words.
@@ -98,16 +101,24 @@ extern "C" {
  * takes up: where it goes and whether it fits, a cartridge's load and its free
  * units all go by stored sizes. Only the refusal of a size of 0 does not.
  *
+ * Two productions draw on the stock. The commands after a 05 belong to the one
+ * that it names, until the next 05; a stream starts in production 0. Each has its
+ * own shelf: its own cartridges, numbered from 1, its own masters and its own
+ * count of B2 masters. The stock is spent when both together have opened it all.
+ * The commands are numbered through, whichever production they belong to.
+ *
  * If the stream is accepted, the result is
  *     masters still shelved * 2^16 + cartridges opened
- * (each below 2^16; bits 32 up are 0 in this version). Still shelved are the
- * masters accepted and not taken out; opened is every cartridge that was opened,
- * emptied or not. answers[n - 1] holds the answer to command n:
+ * (each below 2^16; bits 32 up are 0 in this version), of both productions
+ * together. Still shelved are the masters accepted and not taken out; opened is
+ * every cartridge that was opened, emptied or not. answers[n - 1] holds the answer
+ * to command n, where cartridges and masters are those of its production:
  *     to 02   the number of the cartridge the master lies in, 1 to the stock;
  *             cartridges are numbered in order of opening; or
  *             32768 + 8    the size, without the trailer, is 0
  *             32768 + 9    the stored size is above the capacity
  *             32768 + 10   a new cartridge is called for, and the stock is spent
+ *                          by both productions together
  *             of these the first that applies; a refused master leaves the
  *             shelf as it was, and the stream goes on
  *     to 03   the number of cartridges opened, 0 to the stock
@@ -115,24 +126,25 @@ extern "C" {
  *             answer to the command named; or
  *             32768 + 17   no master of that number is on the shelf: the command
  *                          named is not an earlier 02, or was refused, or its
- *                          master is out already
+ *                          master is out already or the other production's
  *             and then the shelf is as it was, and the stream goes on. An
  *             emptied cartridge stays opened, keeps its number and class, and is
  *             chosen like any other of its class.
+ *     to 05   the production, 0 or 1, also if it is the one already
  * free_units[n - 1] holds, where command n is answered by a master's cartridge,
  * the units free on that cartridge just after the command, with the master on it
  * (02) or without (04): the capacity less the cartridge's load then. For a
- * refused command, and for 03, it holds 0. Words past the last command are
- * untouched, in either row.
+ * refused command, and for 03 and 05, it holds 0. Words past the last command
+ * are untouched, in either row.
  *
  * If the stream is refused, the result is
  *     2^63 + number * 2^32 + offset
  * and every word of both rows is untouched. The first faulty command decides; at
- * one command the order is 1, 6, 2, 4, 3, 5, and 7 comes last of all.
+ * one command the order is 1, 6, 2, 4, 3, 18, 5, and 7 comes last of all.
  *     number  offset                    condition
  *     1       0                         the stream is empty, or its first byte
  *                                       is neither 01 nor 11
- *     2       of the command byte       the byte is none of 01, 02, 03, 04, 11
+ *     2       of the command byte       the byte is none of 01 to 05 and 11
  *     3       of the command byte       operands cut short by the stream's end
  *     4       of the command byte       a second opening, of either kind, cut
  *                                       short or not
@@ -142,9 +154,11 @@ extern "C" {
  *             after the opening         opening
  *     7       the stream's length       answers_len or free_len is below the
  *                                       number of commands after the opening
+ *     18      of the command byte       the production of a 05 is above 1
  *
- * A word does not tell a cartridge's number from a count: the command does. Nor
- * do 0 free units tell a full cartridge from a refusal: the answer does.
+ * A word does not tell a cartridge's number from a count or a production: the
+ * command does. Nor do 0 free units tell a full cartridge from a refusal: the
+ * answer does.
  */
 uint64_t shelf_stream(const uint8_t *stream, size_t stream_len,
                       uint16_t *answers, size_t answers_len,
@@ -165,12 +179,15 @@ uint64_t shelf_stream(const uint8_t *stream, size_t stream_len,
  * spaces. A cartridge's line is
  *     columns     1-4     6      8-15  17-24       26-29         others
  *     holds       number  class  load  free units  masters held  spaces
- * in rising number. Before each 50 of them, or what is left of 50, stands
+ * in rising number, all of production 0 and then all of production 1. Before each
+ * 50 of a production, or what is left of 50, stands
  *     columns     1-4     6-8          others
  *     holds       PAGE    page number  spaces
- * with pages numbered from 1. Where nothing is opened there is no line. Load and
- * masters held are of the masters still shelved: the loads add up to the stored
- * sizes of these.
+ * with pages numbered from 1, and on from production 0 to production 1. So each
+ * production starts a page with its cartridge 1; one that opened nothing has no
+ * line. No line names the production: where only one has lines, the answers tell
+ * which. Load and masters held are of the masters still shelved: the loads add up
+ * to the stored sizes of these.
  *
  * Where there is no sheet, the text is one line, not filled up:
  *     X number offset     the stream is refused, as by shelf_stream with rows of
@@ -183,6 +200,7 @@ uint64_t shelf_sheet(const uint8_t *stream, size_t stream_len, uint8_t *sheet);
  * Checks that a plan packs the given masters, in their order, into cartridges
  * numbered 1 to k. Nothing is written. Sizes are taken as they are given: those
  * of a shelf's own masters, in the plan and in the list, must be stored sizes.
+ * Each production has a plan of its own.
  *
  * sizes, bins  the plan: entry i is the size sizes[i] in the cartridge bins[i],
  *              for i below the lesser of sizes_len and bins_len. Elements that
@@ -239,13 +257,13 @@ static inline uint32_t shelf_place(uint64_t result)
     return result & 0xffffffffu;
 }
 
-/* Of an accepted stream the masters still shelved. */
+/* Of an accepted stream the masters still shelved, of both productions. */
 static inline uint32_t shelf_items(uint64_t result)
 {
     return (result >> 16) & 0xffffu;
 }
 
-/* Of an accepted stream the cartridges opened, emptied ones too. */
+/* Of an accepted stream the cartridges opened by both, emptied ones too. */
 static inline uint32_t shelf_opened(uint64_t result)
 {
     return result & 0xffffu;
@@ -305,6 +323,8 @@ static inline const char *shelf_refusal_name(uint32_t number)
         return "the plan is not of these masters";
     case SHELF_REFUSAL_NOT_SHELVED:
         return "no master of that number is on the shelf";
+    case SHELF_REFUSAL_NO_SUCH_PRODUCTION:
+        return "no production has that number";
     default:
         return "no refusal has this number";
     }

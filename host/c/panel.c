@@ -1,25 +1,55 @@
-/* A panel's round: open a shelf for masters with trailers, shelve, take a master
- * out again, read the answers, print the vault sheet, check a plan. */
+/* A panel's round: open a shelf for masters with trailers, shelve those of two
+ * productions, take a master out again, read the answers, print the vault sheet,
+ * check plans. */
 
 #include <inttypes.h>
 #include <stdio.h>
 
 #include "shelf.h"
 
-enum { CAPACITY = 60, STOCK = 4, M = 6, TRAILER = 1 };
-enum { MASTERS = 9, WITHDRAWALS = 2, COMMANDS = MASTERS + 1 + WITHDRAWALS };
+enum { CAPACITY = 60, STOCK = 6, M = 6, TRAILER = 1 };
+enum { OPEN = 0x11, SHELVE = 0x02, COUNT = 0x03, WITHDRAW = 0x04, SWITCH = 0x05 };
 
-static const uint32_t masters[MASTERS] = {34, 21, 21, 21, 21, 21, 21, 19, 60};
-static const uint16_t withdrawals[WITHDRAWALS] = {3, 8};
+struct command {
+    uint8_t byte;
+    uint32_t operand;
+};
+
+static const struct command commands[] = {
+    {SHELVE, 34},  {SHELVE, 21},   {SHELVE, 21}, {SHELVE, 21},  {SHELVE, 21},
+    {SHELVE, 21},  {SHELVE, 21},   {SWITCH, 1},  {SHELVE, 34},  {SHELVE, 19},
+    {SHELVE, 29},  {SHELVE, 60},   {COUNT, 0},   {WITHDRAW, 3}, {SWITCH, 0},
+    {WITHDRAW, 3}, {COUNT, 0}};
+
+enum { COMMANDS = sizeof commands / sizeof *commands };
 
 static uint8_t stream[10 + 5 * COMMANDS];
 static size_t length;
+
+/* Of a production's master, by its command: the stored size, 0 where none is
+ * shelved, and the cartridge. */
+static uint32_t stored[2][COMMANDS], cartridge[2][COMMANDS];
 
 /* Appends a number of so many bytes, most significant first. */
 static void put(uint32_t number, int bytes)
 {
     while (bytes-- > 0)
         stream[length++] = (number >> (8 * bytes)) & 0xff;
+}
+
+/* The bytes that a command's operand takes. */
+static int width(uint8_t byte)
+{
+    switch (byte) {
+    case SHELVE:
+        return 4;
+    case WITHDRAW:
+        return 2;
+    case SWITCH:
+        return 1;
+    default:
+        return 0;
+    }
 }
 
 static void print_sheet(void)
@@ -29,54 +59,66 @@ static void print_sheet(void)
     fwrite(sheet, 1, shelf_sheet(stream, length, sheet), stdout);
 }
 
-/* Prints the answer of command i + 1, to a master or to a withdrawal; whether it
- * is accepted. */
-static int answered(const uint16_t *answers, const uint32_t *free_units, size_t i)
+/* Prints the answer to a master or a withdrawal; whether it is accepted. */
+static int answered(const char *what, uint32_t number, uint16_t answer,
+                    uint32_t free_units)
 {
-    uint32_t refusal = shelf_answer_refusal(answers[i]);
+    uint32_t refusal = shelf_answer_refusal(answer);
 
+    printf("%s of %" PRIu32 ": ", what, number);
     if (refusal == 0)
-        printf("cartridge %" PRIu16 ", %" PRIu32 " free\n", answers[i],
-               free_units[i]);
+        printf("cartridge %" PRIu16 ", %" PRIu32 " free\n", answer, free_units);
     else
         printf("refused %" PRIu32 ", %s\n", refusal, shelf_refusal_name(refusal));
     return refusal == 0;
 }
 
-static void report(const char *plan, uint64_t result)
+/* Checks a plan of just these masters, in cartridges up to the highest, with the
+ * second moved to this cartridge unless it is 0. */
+static void report(const char *name, int production, uint32_t moved)
 {
-    uint32_t refusal = shelf_refusal(result);
+    uint32_t sizes[COMMANDS], bins[COMMANDS];
+    uint32_t k = 0, refusal;
+    size_t entries = 0, i;
+    uint64_t result;
 
+    for (i = 0; i < COMMANDS; i++)
+        if (stored[production][i] > 0) {
+            sizes[entries] = stored[production][i];
+            bins[entries] = cartridge[production][i];
+            if (bins[entries] > k)
+                k = bins[entries];
+            entries++;
+        }
+    if (moved > 0)
+        bins[1] = moved;
+    result = shelf_check_plan(sizes, entries, bins, entries, sizes, entries,
+                              CAPACITY, k);
+    refusal = shelf_refusal(result);
     if (refusal == 0)
-        printf("%s: passed\n", plan);
+        printf("%s: passed\n", name);
     else
-        printf("%s: refusal %" PRIu32 " at place %" PRIu32 ": %s\n", plan,
-               refusal, shelf_place(result), shelf_refusal_name(refusal));
+        printf("%s: refusal %" PRIu32 " at place %" PRIu32 ": %s\n", name, refusal,
+               shelf_place(result), shelf_refusal_name(refusal));
 }
 
 int main(void)
 {
     uint16_t answers[COMMANDS];
     uint32_t free_units[COMMANDS];
-    uint32_t sizes[MASTERS], bins[MASTERS];
-    int shelved[MASTERS];
-    size_t entries = 0, i;
     uint64_t result;
-    uint32_t refusal, opened;
+    uint32_t refusal;
+    int production = 0;
+    size_t i;
 
-    put(0x11, 1);
+    put(OPEN, 1);
     put(CAPACITY, 4);
     put(STOCK, 2);
     put(M, 1);
     put(TRAILER, 2);
-    for (i = 0; i < MASTERS; i++) {
-        put(0x02, 1);
-        put(masters[i], 4);
-    }
-    put(0x03, 1);
-    for (i = 0; i < WITHDRAWALS; i++) {
-        put(0x04, 1);
-        put(withdrawals[i], 2);
+    for (i = 0; i < COMMANDS; i++) {
+        put(commands[i].byte, 1);
+        put(commands[i].operand, width(commands[i].byte));
     }
 
     result = shelf_stream(stream, length, answers, COMMANDS, free_units,
@@ -88,37 +130,38 @@ int main(void)
         return 1;
     }
 
-    for (i = 0; i < MASTERS; i++) {
-        printf("master of %" PRIu32 ": ", masters[i]);
-        shelved[i] = answered(answers, free_units, i);
+    for (i = 0; i < COMMANDS; i++) {
+        uint32_t operand = commands[i].operand;
+
+        switch (commands[i].byte) {
+        case SHELVE:
+            if (answered("master", operand, answers[i], free_units[i])) {
+                stored[production][i] = operand + TRAILER;
+                cartridge[production][i] = answers[i];
+            }
+            break;
+        case WITHDRAW:
+            if (answered("withdrawal", operand, answers[i], free_units[i]))
+                stored[production][operand - 1] = 0;
+            break;
+        case SWITCH:
+            production = answers[i];
+            printf("production %d\n", production);
+            break;
+        default:
+            printf("%" PRIu16 " cartridges opened\n", answers[i]);
+        }
     }
-    printf("%" PRIu16 " cartridges opened\n", answers[MASTERS]);
-    for (i = 0; i < WITHDRAWALS; i++) {
-        printf("withdrawal of %" PRIu16 ": ", withdrawals[i]);
-        if (answered(answers, free_units, MASTERS + 1 + i))
-            shelved[withdrawals[i] - 1] = 0;
-    }
-    opened = shelf_opened(result);
     printf("%" PRIu32 " masters in %" PRIu32 " cartridges\n",
-           shelf_items(result), opened);
+           shelf_items(result), shelf_opened(result));
     print_sheet();
 
     /* The masters still shelved, in their stored sizes, and where they lie are a
-     * plan of their own. */
-    for (i = 0; i < MASTERS; i++)
-        if (shelved[i]) {
-            sizes[entries] = masters[i] + TRAILER;
-            bins[entries] = answers[i];
-            entries++;
-        }
-    report("the shelf's own plan",
-           shelf_check_plan(sizes, entries, bins, entries, sizes, entries,
-                            CAPACITY, opened));
+     * plan of their own in each production. */
+    report("production 0's own plan", 0, 0);
+    report("production 1's own plan", 1, 0);
 
     /* Moving the first 21 beside the 34 and another 21 overfills cartridge 1. */
-    bins[1] = 1;
-    report("a crowded plan",
-           shelf_check_plan(sizes, entries, bins, entries, sizes, entries,
-                            CAPACITY, opened));
+    report("a crowded plan", 0, 1);
     return 0;
 }

@@ -6,8 +6,8 @@
 #include "shelf.h"
 #include "shelf.h"
 
-#if SHELF_VERSION != 4
-#error "these are the checks of version 4"
+#if SHELF_VERSION != 5
+#error "these are the checks of version 5"
 #endif
 
 #if SHELF_MIN_M > SHELF_MAX_M || SHELF_MAX_CAPACITY < SHELF_MAX_SHEET_STREAM
@@ -26,6 +26,7 @@ int check_header(void)
     const uint64_t accepted = 0x0000000010000200u;
     const uint64_t with_more = 0x7fffffff10000200u;
     const uint64_t no_words = 0x800000070000500au;
+    const uint64_t no_production = 0x8000001200000008u;
     const uint64_t last_plan = 0x80000010ffffffffu;
     static const uint16_t figures[] = {0, 1, SHELF_MAX_STOCK, 0x7fff};
     uint32_t number, other;
@@ -45,6 +46,8 @@ int check_header(void)
     CHECK(shelf_is_refused(no_words));
     CHECK(shelf_refusal(no_words) == SHELF_REFUSAL_TOO_FEW_WORDS);
     CHECK(shelf_place(no_words) == 10 + 5 * SHELF_MAX_COMMANDS);
+    CHECK(shelf_refusal(no_production) == SHELF_REFUSAL_NO_SUCH_PRODUCTION);
+    CHECK(shelf_place(no_production) == 8);
 
     CHECK(!shelf_is_refused(0) && shelf_refusal(0) == 0);
     CHECK(shelf_is_refused(last_plan));
@@ -61,12 +64,12 @@ int check_header(void)
     CHECK(shelf_answer_refusal(32778) == SHELF_REFUSAL_STOCK_SPENT);
     CHECK(shelf_answer_refusal(32785) == SHELF_REFUSAL_NOT_SHELVED);
 
-    /* Seventeen names, no two alike, and one for all other numbers. */
-    for (number = 0; number <= SHELF_REFUSAL_NOT_SHELVED; number++)
+    /* Eighteen names, no two alike, and one for all other numbers. */
+    for (number = 0; number <= SHELF_REFUSAL_NO_SUCH_PRODUCTION; number++)
         for (other = 0; other < number; other++)
             CHECK(strcmp(shelf_refusal_name(number),
                          shelf_refusal_name(other)) != 0);
-    CHECK(strcmp(shelf_refusal_name(18), shelf_refusal_name(0)) == 0);
+    CHECK(strcmp(shelf_refusal_name(19), shelf_refusal_name(0)) == 0);
     CHECK(strcmp(shelf_refusal_name(0xffffffff), shelf_refusal_name(0)) == 0);
     return 0;
 }

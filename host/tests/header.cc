@@ -26,6 +26,9 @@ const bytes stream = {1, 0, 0, 0, 60, 0, 1, 6, 2, 0, 0, 0, 35,
 // The same stored sizes, with a trailer of 5.
 const bytes trailers = {0x11, 0, 0, 0, 60, 0, 1, 6, 0, 5, 2, 0, 0, 0, 30,
                         2,    0, 0, 0, 35, 3, 4, 0, 1, 4, 0, 2};
+// The same in production 1: a switch to it, and then the commands.
+const bytes second = {1, 0, 0, 0, 60, 0, 1, 6, 5, 1, 2, 0, 0, 0, 35,
+                      2, 0, 0, 0, 40, 3, 4, 0, 2, 4, 0, 3};
 
 uint64_t shelve(const bytes &sent, std::vector<uint16_t> &answers,
                 std::vector<uint32_t> &free_units)
@@ -72,6 +75,18 @@ int check_header()
     std::vector<uint32_t> other_units(SHELF_MAX_COMMANDS, 7);
     CHECK(shelve(trailers, other_answers, other_units) == result);
     CHECK(other_answers == answers && other_units == free_units);
+
+    CHECK(shelve(second, other_answers, other_units) == result);
+    CHECK(other_answers[0] == 1 && other_units[0] == 0);
+    for (size_t i = 0; i < 5; i++) {
+        CHECK(other_answers[i + 1] == answers[i]);
+        CHECK(other_units[i + 1] == free_units[i]);
+    }
+
+    bytes third = second;
+    third[9] = 2;
+    CHECK(shelf_refusal(shelve(third, other_answers, other_units)) ==
+          SHELF_REFUSAL_NO_SUCH_PRODUCTION);
 
     free_units.resize(4);
     result = shelve(stream, answers, free_units);

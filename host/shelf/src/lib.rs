@@ -26,21 +26,29 @@
 //!
 //! The number of a bin is its place in the order of opening, from 1. A bin that
 //! is emptied stays opened and is chosen again like any other of its class.
-//! Refusals keep the numbers 1 to 17 of the specification; `number` gives them.
+//! Refusals keep the numbers 1 to 18 of the specification; `number` gives them.
 //!
 //! Where a trailer is written after each item, the opening has its length
 //! ([`StreamBuilder::open_with_trailer`]). An item then takes up its stored size
 //! ([`Opening::stored`]): its bin, the loads, the free units and the shelf's own
 //! plan go by that.
+//!
+//! Two productions may draw on one stock. A stream starts in the first, and
+//! [`StreamBuilder::switch`] makes the commands after it belong to either. Each
+//! [`Production`] has bins of its own, numbered from 1; the stock is spent once
+//! both together have opened it all.
 
+mod production;
 mod refusals;
 mod results;
 mod sheet;
 mod stream;
 
+pub use production::Production;
 pub use refusals::{CommandRefusal, PlanFault, PlanRefusal, StreamFault, StreamRefusal};
 pub use sheet::{Row, Sheet};
-pub use stream::{answers, commands, Answer, Answers, Command, Commands, Opening, StreamBuilder};
+pub use stream::{answers, commands, productions};
+pub use stream::{Answer, Answers, Command, Commands, Opening, StreamBuilder};
 
 /// The largest capacity of a bin.
 pub const MAX_CAPACITY: u32 = 16_777_216;
@@ -59,8 +67,8 @@ pub const MAX_COMMANDS: usize = 4_096;
 pub const MAX_ENTRIES: usize = 4_096;
 /// The longest stream that a sheet is made of, in bytes.
 pub const MAX_SHEET_STREAM: usize = 32_768;
-/// The most bytes of a sheet: a line of 41 for each of 512 bins and 11 pages.
-pub const SHEET_BYTES: usize = 21_443;
+/// The most bytes of a sheet: a line of 41 for each of 512 bins and 12 pages.
+pub const SHEET_BYTES: usize = 21_484;
 
 mod ffi {
     extern "C" {
@@ -88,7 +96,7 @@ mod ffi {
     }
 }
 
-/// What an accepted stream returns.
+/// What an accepted stream returns, over both productions.
 #[derive(Debug, Clone, Copy, PartialEq, Eq)]
 pub struct Totals {
     /// The items still shelved: those accepted and not taken out.
@@ -109,9 +117,9 @@ pub struct Entry {
 /// Shelves a whole stream.
 ///
 /// On success word `n - 1` of each row answers command `n` after the opening:
-/// in `answers` by the item's bin, the count or the refusal, in `free` by the
-/// units free on that bin just after the item was placed or taken out, and by 0
-/// for a count or a refusal ([`answers`] reads them). The words past the last
+/// in `answers` by the item's bin, the count, the production or the refusal, in
+/// `free` by the units free on that bin just after the item was placed or taken
+/// out, and by 0 for all else ([`answers`] reads them). The words past the last
 /// command are untouched. A refused stream leaves every word of both rows
 /// untouched.
 ///
@@ -155,10 +163,11 @@ pub fn shelve(
 
 /// The vault sheet of a stream: what every opened bin holds once the whole
 /// stream is done, as text and as numbers. A bin that is emptied has its line
-/// too.
+/// too. The first production's bins come first, then the second's from a new
+/// page. The text does not name the production: a row has it from the answers.
 ///
 /// ```
-/// use shelf::{Row, StreamBuilder};
+/// use shelf::{Production, Row, StreamBuilder};
 ///
 /// let mut stream = StreamBuilder::open(60, 4, 6);
 /// stream.shelve(35).shelve(20).shelve(61).shelve(20).withdraw(1);
@@ -170,7 +179,9 @@ pub fn shelve(
 ///     "   1 1        0       60    0           ",
 ///     "   2 4       40       20    2           ",
 /// ]);
-/// assert_eq!(sheet.rows()[1], Row { number: 2, class: 4, load: 40, free: 20, held: 2 });
+/// let production = Production::First;
+/// let row = Row { production, number: 2, class: 4, load: 40, free: 20, held: 2 };
+/// assert_eq!(sheet.rows()[1], row);
 /// ```
 ///
 /// A refused stream has no sheet: the text is then the one line that the
@@ -184,10 +195,23 @@ pub fn shelve(
 pub fn sheet(stream: &[u8]) -> Sheet {
     let mut bytes = Box::new([0; SHEET_BYTES]);
     let len = write_sheet(stream, &mut bytes);
-    match Sheet::read(&bytes[..len]) {
+    match Sheet::read(&bytes[..len], first_on_sheet(stream)) {
         Some(sheet) => sheet,
         None => panic!("shelf_sheet wrote a text that its interface excludes"),
     }
+}
+
+/// The production that has the first row of the sheet. The answers tell, and the
+/// text does not where only one production has rows.
+fn first_on_sheet(stream: &[u8]) -> Production {
+    let (mut words, mut free) = (vec![0; MAX_COMMANDS], vec![0; MAX_COMMANDS]);
+    if shelve(stream, &mut words, &mut free).is_err() {
+        return Production::First;
+    }
+    let answered = answers(stream, &words, &free).zip(productions(stream));
+    let placed = answered.filter(|((_, answer), _)| matches!(answer, Answer::Placed { .. }));
+    let productions = placed.map(|(_, production)| production);
+    productions.min().unwrap_or_default()
 }
 
 /// Writes the text of the vault sheet at the front of the lent bytes and
@@ -206,7 +230,8 @@ pub fn write_sheet(stream: &[u8], sheet: &mut [u8; SHEET_BYTES]) -> usize {
 /// Checks that `plan` packs `items`, in their order, into bins numbered 1 to
 /// `k` of the given capacity. A `k` larger than the bins used is permitted.
 /// Sizes are taken as they are given: those of a shelf's own items must be
-/// stored sizes ([`Opening::stored`]), in `plan` and in `items`.
+/// stored sizes ([`Opening::stored`]), in `plan` and in `items`. Each production
+/// has a plan of its own.
 ///
 /// ```
 /// use shelf::{Entry, PlanFault};
@@ -324,7 +349,7 @@ mod tests {
                 PlanFault::from_number(number).map(PlanFault::number),
             ];
             let known: Vec<u32> = found.into_iter().flatten().collect();
-            let expected: &[u32] = if (1..=17).contains(&number) {
+            let expected: &[u32] = if (1..=18).contains(&number) {
                 &[number]
             } else {
                 &[]

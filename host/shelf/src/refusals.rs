@@ -48,6 +48,7 @@ refusals! {
         OpeningOutsideLimits = 5 "capacity, stock or m outside its limits"
         TooManyCommands = 6 "more than 4096 commands after the opening"
         TooFewWords = 7 "fewer words in a row than commands after the opening"
+        NoSuchProduction = 18 "no production has that number"
     }
 }
 

@@ -57,11 +57,17 @@ mod tests {
 
     #[test]
     fn excluded_numbers_are_no_result() {
-        for code in [1 << 32, 7 << 32, REFUSED - 1, REFUSED, REFUSED | 8 << 32] {
+        for code in [1 << 32, 7 << 32, REFUSED - 1, REFUSED] {
             assert_eq!(of_stream(code), None);
         }
-        for code in [1, 11 << 32, REFUSED | 10 << 32, REFUSED | 17 << 32] {
+        for number in [8, 17, 19] {
+            assert_eq!(of_stream(REFUSED | number << 32), None);
+        }
+        for code in [1, 11 << 32] {
             assert_eq!(of_plan(code), None);
+        }
+        for number in [10, 17, 18] {
+            assert_eq!(of_plan(REFUSED | number << 32), None);
         }
     }
 }

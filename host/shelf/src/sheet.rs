@@ -1,5 +1,7 @@
 //! The vault sheet, read off the columns of its text.
 
+use crate::Production;
+
 /// The characters of a line, before its newline.
 const LINE: usize = 40;
 /// What the line that opens a page starts with.
@@ -8,7 +10,9 @@ const PAGE: &str = "PAGE";
 /// What a sheet says of one bin.
 #[derive(Debug, Clone, Copy, PartialEq, Eq)]
 pub struct Row {
-    /// The bin's number, from 1.
+    /// The production whose bin it is.
+    pub production: Production,
+    /// The bin's number, from 1 in each production.
     pub number: u16,
     /// Its class, 1 to 4.
     pub class: u8,
@@ -21,8 +25,9 @@ pub struct Row {
 }
 
 impl Row {
-    fn read(line: &str) -> Option<Self> {
+    fn read(line: &str, production: Production) -> Option<Self> {
         Some(Self {
+            production,
             number: line.get(..4)?.trim_start().parse().ok()?,
             class: line.get(5..6)?.parse().ok()?,
             load: line.get(7..15)?.trim_start().parse().ok()?,
@@ -41,28 +46,32 @@ pub struct Sheet {
 }
 
 impl Sheet {
-    /// `None` if the library writes no such text.
-    pub(crate) fn read(text: &[u8]) -> Option<Self> {
+    /// Its text, whose first row is of this production: the text does not tell
+    /// whose the rows are, where only one production has any. `None` if the
+    /// library writes no such text.
+    pub(crate) fn read(text: &[u8], first: Production) -> Option<Self> {
         let text = String::from_utf8(text.to_vec()).ok()?;
         let mut sheet = Self {
             text,
             rows: Vec::new(),
         };
         if !sheet.is_refused() {
-            sheet.rows = rows(&sheet.text)?;
+            sheet.rows = rows(&sheet.text, first)?;
         }
         Some(sheet)
     }
 
-    /// The whole text, lines of 40 characters: one for each opened bin, in
-    /// rising number, and one before each 50 of them that opens a page. Of a
-    /// refused stream the one line `X number offset`, or `L 32768` if it is
-    /// longer than that.
+    /// The whole text, lines of 40 characters: one for each opened bin of the
+    /// first production and then of the second, in rising number, and one before
+    /// each 50 of a production that opens a page. Pages are numbered on from the
+    /// first production to the second. Of a refused stream the one line `X number
+    /// offset`, or `L 32768` if it is longer than that.
     pub fn text(&self) -> &str {
         &self.text
     }
 
-    /// The opened bins, in rising number; none of a refused stream.
+    /// The opened bins of the first production and then of the second, in rising
+    /// number; none of a refused stream.
     pub fn rows(&self) -> &[Row] {
         &self.rows
     }
@@ -73,14 +82,21 @@ impl Sheet {
     }
 }
 
-fn rows(text: &str) -> Option<Vec<Row>> {
-    let mut rows = Vec::new();
+/// The rows of a text. Those of a production are numbered on from 1, so behind the
+/// first row another number 1 is of the second production.
+fn rows(text: &str, first: Production) -> Option<Vec<Row>> {
+    let mut rows: Vec<Row> = Vec::new();
+    let mut production = first;
     for line in text.lines() {
         if line.len() != LINE {
             return None;
         }
         if !line.starts_with(PAGE) {
-            rows.push(Row::read(line)?);
+            let row = Row::read(line, production)?;
+            if row.number == 1 && !rows.is_empty() {
+                production = Production::Second;
+            }
+            rows.push(Row { production, ..row });
         }
     }
     Some(rows)
@@ -89,10 +105,11 @@ fn rows(text: &str) -> Option<Vec<Row>> {
 #[cfg(test)]
 mod tests {
     use super::*;
-    use crate::{sheet, shelve, StreamBuilder, MAX_CAPACITY, MAX_SHEET_STREAM, SHEET_BYTES};
+    use crate::{sheet, shelve, StreamBuilder, MAX_CAPACITY, MAX_SHEET_STREAM};
 
     fn row(number: u16, class: u8, load: u32, free: u32, held: u16) -> Row {
         Row {
+            production: Production::First,
             number,
             class,
             load,
@@ -148,7 +165,6 @@ mod tests {
                 assert_eq!(lines[0], format!("PAGE {page:>3}{:32}", ""));
             }
         }
-        assert_eq!(sheet(&full_bins(512)).text().len(), SHEET_BYTES);
     }
 
     #[test]
@@ -208,9 +224,28 @@ mod tests {
     }
 
     #[test]
+    fn a_second_row_1_is_of_the_second_production() {
+        let line = |number| format!("{number:>4} 1       35       25    1           \n");
+        let page = |number| format!("PAGE {number:>3}{:32}\n", "");
+        let one = [page(1), line(1), line(2)].concat();
+        let both = [one.clone(), page(2), line(1)].concat();
+        use Production::{First, Second};
+        for (text, first, expected) in [
+            (&one, First, &[(First, 1), (First, 2)][..]),
+            (&one, Second, &[(Second, 1), (Second, 2)]),
+            (&both, First, &[(First, 1), (First, 2), (Second, 1)]),
+        ] {
+            let sheet = Sheet::read(text.as_bytes(), first).unwrap();
+            let rows = sheet.rows().iter().map(|row| (row.production, row.number));
+            assert_eq!(rows.collect::<Vec<_>>(), expected);
+        }
+    }
+
+    #[test]
     fn excluded_texts_are_no_sheet() {
         let line = "   1 1       35       25    1           \n";
-        assert!(Sheet::read(line.as_bytes()).is_some());
+        let read = |text: &[u8]| Sheet::read(text, Production::First);
+        assert!(read(line.as_bytes()).is_some());
         for (part, other) in [
             ("   1 1", "     1"),
             (" 1 ", "   "),
@@ -220,10 +255,10 @@ mod tests {
             ("1           \n", "            \n"),
         ] {
             let text = line.replacen(part, other, 1);
-            assert_eq!(Sheet::read(text.as_bytes()), None, "{text}");
+            assert_eq!(read(text.as_bytes()), None, "{text}");
         }
         for text in [&b"\n"[..], &[0xFF]] {
-            assert_eq!(Sheet::read(text), None);
+            assert_eq!(read(text), None);
         }
     }
 }

@@ -3,13 +3,14 @@
 use std::iter::Zip;
 use std::slice::Iter;
 
-use crate::CommandRefusal;
+use crate::{CommandRefusal, Production};
 
 const OPEN: u8 = 0x01;
 const OPEN_WITH_TRAILER: u8 = 0x11;
 const SHELVE: u8 = 0x02;
 const COUNT: u8 = 0x03;
 const WITHDRAW: u8 = 0x04;
+const SWITCH: u8 = 0x05;
 
 /// An answer word with this bit carries a refusal's number.
 const REFUSED: u16 = 0x8000;
@@ -135,15 +136,16 @@ impl StreamBuilder {
         self
     }
 
-    /// Ask how many bins are opened.
+    /// Ask how many bins the production has opened.
     pub fn count(&mut self) -> &mut Self {
         self.bytes.push(COUNT);
         self.commands += 1;
         self
     }
 
-    /// Take out the item that the command of this number shelved. The commands
-    /// after the opening are numbered from 1.
+    /// Take out the item that the command of this number shelved for the same
+    /// production. The commands after the opening are numbered from 1, those of
+    /// both productions together.
     ///
     /// ```
     /// let mut stream = shelf::StreamBuilder::open(60, 4, 6);
@@ -154,6 +156,22 @@ impl StreamBuilder {
     pub fn withdraw(&mut self, number: u16) -> &mut Self {
         self.bytes.push(WITHDRAW);
         self.bytes.extend(number.to_be_bytes());
+        self.commands += 1;
+        self
+    }
+
+    /// Make the commands after it belong to this production, or to that of this
+    /// number. A stream starts in the first.
+    ///
+    /// ```
+    /// use shelf::Production;
+    ///
+    /// let mut stream = shelf::StreamBuilder::open(60, 4, 6);
+    /// stream.shelve(35).switch(Production::Second).shelve(22);
+    /// assert!(stream.bytes().ends_with(&[2, 0, 0, 0, 35, 5, 1, 2, 0, 0, 0, 22]));
+    /// ```
+    pub fn switch(&mut self, production: impl Into<u8>) -> &mut Self {
+        self.bytes.extend([SWITCH, production.into()]);
         self.commands += 1;
         self
     }
@@ -185,7 +203,7 @@ impl StreamBuilder {
 pub enum Answer {
     /// The item lies in this bin.
     Placed {
-        /// The bin's number, from 1.
+        /// The bin's number, from 1 in each production.
         bin: u16,
         /// The units left free on the bin just after the item. Until another
         /// command is answered this bin, an item that is permitted there fits
@@ -200,11 +218,13 @@ pub enum Answer {
         /// The units free on the bin just after that.
         free: u32,
     },
-    /// So many bins are opened.
+    /// The production has opened so many bins.
     Counted {
         /// The number of bins.
         opened: u16,
     },
+    /// The commands after this one belong to this production.
+    Switched(Production),
     /// The command was refused, and left everything as it was.
     Refused(CommandRefusal),
 }
@@ -214,7 +234,7 @@ impl Answer {
     /// it. `None` if the library answers it by no such words.
     ///
     /// ```
-    /// use shelf::{Answer, Command, CommandRefusal};
+    /// use shelf::{Answer, Command, CommandRefusal, Production};
     ///
     /// let shelve = Command::Shelve { size: 35 };
     /// let placed = Answer::Placed { bin: 7, free: 25 };
@@ -226,14 +246,22 @@ impl Answer {
     /// let withdraw = Command::Withdraw { number: 3 };
     /// let withdrawn = Answer::Withdrawn { bin: 7, free: 60 };
     /// assert_eq!(Answer::to(withdraw, 7, 60), Some(withdrawn));
+    /// let switch = Command::Switch(Production::Second);
+    /// let switched = Answer::Switched(Production::Second);
+    /// assert_eq!(Answer::to(switch, 1, 0), Some(switched));
     ///
     /// assert_eq!(Answer::to(shelve, 0, 60), None);
     /// assert_eq!(Answer::to(Command::Count, 7, 25), None);
     /// assert_eq!(Answer::to(withdraw, 32_768 + 10, 0), None);
+    /// assert_eq!(Answer::to(switch, 0, 0), None);
     /// ```
     pub fn to(command: Command, word: u16, free: u32) -> Option<Self> {
         let answer = match command {
             Command::Count => Self::Counted { opened: word },
+            Command::Switch(production) if word == production.number().into() => {
+                Self::Switched(production)
+            }
+            Command::Switch(_) => return None,
             _ if word & REFUSED != 0 => {
                 let number = word & !REFUSED;
                 let why = CommandRefusal::from_number(number.into())?;
@@ -263,29 +291,32 @@ pub enum Command {
         /// The item's size, without a trailer.
         size: u32,
     },
-    /// Ask how many bins are opened.
+    /// Ask how many bins the production has opened.
     Count,
     /// Take out an item.
     Withdraw {
         /// The number of the command that shelved it.
         number: u16,
     },
+    /// Make the commands after it belong to this production.
+    Switch(Production),
 }
 
 /// The commands after the opening, each with the offset of its byte. They end
-/// at the first one that is unknown or cut short; without an opening there are
-/// none.
+/// at the first one that is unknown, cut short or a switch to no production;
+/// without an opening there are none.
 ///
 /// ```
-/// use shelf::{Command, StreamBuilder};
+/// use shelf::{Command, Production, StreamBuilder};
 ///
 /// let mut stream = StreamBuilder::open(60, 4, 6);
-/// stream.shelve(35).count().withdraw(1);
+/// stream.shelve(35).count().withdraw(1).switch(Production::Second);
 /// let commands: Vec<_> = shelf::commands(stream.bytes()).collect();
 /// assert_eq!(commands, [
 ///     (8, Command::Shelve { size: 35 }),
 ///     (13, Command::Count),
 ///     (14, Command::Withdraw { number: 1 }),
+///     (17, Command::Switch(Production::Second)),
 /// ]);
 /// ```
 pub fn commands(stream: &[u8]) -> Commands<'_> {
@@ -294,6 +325,27 @@ pub fn commands(stream: &[u8]) -> Commands<'_> {
         offset: stream.len() - rest.len(),
         rest,
     }
+}
+
+/// The production that each command after the opening belongs to; a switch
+/// belongs to the one before it.
+///
+/// ```
+/// use shelf::Production::{First, Second};
+///
+/// let mut stream = shelf::StreamBuilder::open(60, 4, 6);
+/// stream.shelve(35).switch(Second).shelve(22).switch(First).count();
+/// let productions: Vec<_> = shelf::productions(stream.bytes()).collect();
+/// assert_eq!(productions, [First, First, Second, Second, First]);
+/// ```
+pub fn productions(stream: &[u8]) -> impl Iterator<Item = Production> + '_ {
+    commands(stream).scan(Production::First, |current, (_, command)| {
+        let production = *current;
+        if let Command::Switch(next) = command {
+            *current = next;
+        }
+        Some(production)
+    })
 }
 
 /// The iterator that [`commands`] returns.
@@ -316,6 +368,9 @@ impl Iterator for Commands<'_> {
             [WITHDRAW, a, b, ref rest @ ..] => {
                 let number = u16::from_be_bytes([a, b]);
                 (Command::Withdraw { number }, rest)
+            }
+            [SWITCH, number, ref rest @ ..] => {
+                (Command::Switch(Production::from_number(number)?), rest)
             }
             _ => return None,
         };
@@ -407,6 +462,16 @@ mod tests {
     }
 
     #[test]
+    fn a_switch_is_answered_by_its_own_production() {
+        let words = [(0, 0), (1, 0), (2, 0), (0, 1), (1, 1), (REFUSED | 17, 0)];
+        for (at, production) in Production::BOTH.into_iter().enumerate() {
+            let mut expected = [None; 6];
+            expected[at] = Some(Answer::Switched(production));
+            assert_eq!(read(Command::Switch(production), &words), expected);
+        }
+    }
+
+    #[test]
     fn either_opening_is_read_whole_or_not_at_all() {
         let mut plain = StreamBuilder::open(60, 4, 6);
         let mut with_trailer = StreamBuilder::open_with_trailer(60, 4, 6, 0x1234);
@@ -437,5 +502,17 @@ mod tests {
         assert_eq!(read(11), [withdraw]);
         assert_eq!(read(10), []);
         assert_eq!(read(9), []);
+    }
+
+    #[test]
+    fn commands_end_at_a_switch_to_no_production() {
+        let mut stream = StreamBuilder::open(60, 4, 6);
+        stream.switch(Production::Second).switch(2).count();
+        let bytes = stream.bytes();
+        assert_eq!(stream.commands(), 3);
+        assert_eq!(bytes[8..], [5, 1, 5, 2, 3]);
+        let switch = (8, Command::Switch(Production::Second));
+        assert_eq!(commands(bytes).collect::<Vec<_>>(), [switch]);
+        assert_eq!(commands(&bytes[..9]).next(), None);
     }
 }

@@ -94,7 +94,7 @@ fn a_stream_has_one_opening_of_either_kind() {
         for len in 1..first.len() {
             assert_eq!(refused(&first[..len], 1), (3, 0));
         }
-        for other in [0x00, 0x05, 0x10, 0x12] {
+        for other in [0x00, 0x08, 0x10, 0x12] {
             assert_eq!(
                 refused(&[first, &[other][..]].concat(), 1),
                 (2, first.len())
