@@ -9,19 +9,24 @@ use crate::free_cases;
 use crate::lists::most_trailer;
 use crate::paper::{size_class, SizeClass, Totals};
 use crate::plans::PlanTrial;
+use crate::production_cases;
 use crate::rows::{self, Lent};
 use crate::sheet_cases;
 use crate::streams::StreamTrial;
 use crate::trailer_cases;
 use crate::walk::Program;
 use crate::walk_cases;
-use crate::wire::Command::{self, Count, Shelve, Withdraw};
-use crate::wire::{opening, refuse, refused_word as r, Opening, Refusal, Stream, MOST_COMMANDS};
+use crate::wire::Command::{self, Count, Shelve, Switch, Withdraw};
+use crate::wire::{opening, refuse, refused_word as r, Opening, Refusal, Stream};
+use crate::wire::{MOST_COMMANDS, PRODUCTIONS};
 use crate::withdrawal_cases;
 use crate::written;
 
 /// The openings of the streams that are refused for another fault.
-const OPENINGS: [Opening; 2] = [opening(60, 4, 6), opening(60, 4, 6).with_trailer(5)];
+pub const OPENINGS: [Opening; 2] = [opening(60, 4, 6), opening(60, 4, 6).with_trailer(5)];
+
+/// The class, the load and the items held of a bin on the sheet.
+pub type BinLine = (u32, u32, u32);
 
 /// A stream, and all that it comes to.
 pub struct Case {
@@ -31,8 +36,8 @@ pub struct Case {
     pub answered: &'static [(Command, u16, u32)],
     /// The items still shelved.
     pub items: usize,
-    /// The class, the load and the items held of each bin on the sheet.
-    pub bins: &'static [(u32, u32, u32)],
+    /// What the sheet says of each bin; all are production 0's.
+    pub bins: &'static [BinLine],
 }
 
 impl Case {
@@ -42,6 +47,12 @@ impl Case {
 
     pub fn stream(&self) -> Vec<u8> {
         sent(self.opening, &self.commands())
+    }
+
+    /// The words of both rows.
+    pub fn words(&self) -> (Vec<u16>, Vec<u32>) {
+        let words = self.answered.iter().map(|&(_, word, free)| (word, free));
+        words.unzip()
     }
 }
 
@@ -112,11 +123,22 @@ impl Cases {
 
     /// This case's stream, or another that comes to the same.
     pub fn shelved(&mut self, case: &Case, stream: &[u8]) {
-        let words: Vec<u16> = case.answered.iter().map(|&(_, word, _)| word).collect();
-        let free: Vec<u32> = case.answered.iter().map(|&(.., free)| free).collect();
-        let totals = (case.items, case.bins.len());
-        self.answered(case.name, stream, (&words, &free), totals);
-        let sheet = sheet_cases::sheet(case.opening.capacity, case.bins);
+        let (words, free) = case.words();
+        self.shelved_by_both(case, stream, (&words, &free), [case.bins, &[]]);
+    }
+
+    /// A stream of this case's name, opening and items still shelved, with these
+    /// words, and these bins of either production on its sheet.
+    pub fn shelved_by_both(
+        &mut self,
+        case: &Case,
+        stream: &[u8],
+        words: (&[u16], &[u32]),
+        bins: [&[BinLine]; PRODUCTIONS],
+    ) {
+        let opened = bins.iter().map(|bins| bins.len()).sum();
+        self.answered(case.name, stream, words, (case.items, opened));
+        let sheet = sheet_cases::sheets(case.opening.capacity, bins);
         self.sheet(case.name, stream.to_vec(), &sheet);
     }
 
@@ -136,7 +158,7 @@ impl Cases {
 
     /// A stream that is refused as a whole, at the end of `before`, with so many
     /// words lent in either row or in both; the rows are untouched.
-    fn refused(&mut self, name: &str, number: u32, before: &[u8], fault: &[u8], lent: usize) {
+    pub fn refused(&mut self, name: &str, number: u32, before: &[u8], fault: &[u8], lent: usize) {
         let at = before.len();
         for (answers, free) in [(lent, lent), (lent, MOST_COMMANDS), (MOST_COMMANDS, lent)] {
             let trial = case([before, fault].concat(), Lent { answers, free });
@@ -222,6 +244,7 @@ pub fn run(program: Option<&Program>) -> Result<Cases, String> {
     walk_cases::run(&mut cases, program)?;
     withdrawal_cases::run(&mut cases);
     trailer_cases::run(&mut cases);
+    production_cases::run(&mut cases);
     Ok(cases)
 }
 
@@ -361,12 +384,12 @@ fn faulty_commands(cases: &mut Cases, opening: Opening) {
     let name = "refusal 1: starts with an unknown byte";
     cases.refused(name, 1, &[], &[0xFF], 0);
     let mut other = opening.bytes();
-    for first in [0x00, 0x02, 0x03, 0x04, 0x0B, 0x10, 0x12, 0x91, 0xFF] {
+    for first in [0x00, 0x02, 0x03, 0x04, 0x05, 0x0B, 0x10, 0x12, 0x91, 0xFF] {
         other[0] = first;
         let name = "refusal 1: another byte before the operands of an opening";
         cases.refused(name, 1, &[], &other, 4);
     }
-    for byte in [0x00, 0x05, 0x0B, 0x10, 0x12, 0x81, 0x91, 0xFF] {
+    for byte in [0x00, 0x08, 0x0B, 0x10, 0x12, 0x81, 0x85, 0x91, 0xFF] {
         let name = format!("refusal 2: {byte:02X}");
         cases.refused(&name, 2, &opening.bytes(), &[byte], 4);
         cases.refused(&name, 2, &shelved, &[byte, 0x03], 4);
@@ -380,6 +403,8 @@ fn faulty_commands(cases: &mut Cases, opening: Opening) {
         let name = "refusal 3: a withdrawal cut short";
         cases.refused(name, 3, &shelved, &out[..cut], 4);
     }
+    let name = "refusal 3: a switch cut short";
+    cases.refused(name, 3, &shelved, &Switch(1).bytes()[..1], 4);
     for cut in 1..opening.bytes().len() {
         let name = "refusal 3: an opening cut short";
         cases.refused(name, 3, &[], &opening.bytes()[..cut], 4);
@@ -436,6 +461,7 @@ fn numbers_of_commands(cases: &mut Cases, opening: Opening) {
     let (size, count, out) = (Shelve(22).bytes(), Count.bytes(), Withdraw(1).bytes());
     let [by_01, by_11] = OPENINGS.map(|opening| opening.bytes());
     let whole = [&count, &size, &out, &by_01, &by_11].map(|bytes| &bytes[..]);
+    let switches = [&[5][..], &[5, 0], &[5, 1], &[5, 2], &[5, 255]];
     let cut = [
         &[0xFF],
         &by_01[..1],
@@ -445,7 +471,7 @@ fn numbers_of_commands(cases: &mut Cases, opening: Opening) {
         &out[..1],
         &out[..2],
     ];
-    for last in whole.into_iter().chain(cut) {
+    for last in whole.into_iter().chain(cut).chain(switches) {
         let name = "refusal 6 whatever the 4,097th command";
         cases.refused(name, 6, &full, last, 4096);
     }

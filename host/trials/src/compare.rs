@@ -9,7 +9,7 @@ use crate::plans::PlanTrial;
 use crate::rows::Rows;
 use crate::sheet;
 use crate::streams::StreamTrial;
-use crate::wire::Refusal;
+use crate::wire::{Refusal, Stream};
 use crate::written::Written;
 
 /// Set while the library is called: its wrapper panics on a result outside the
@@ -115,6 +115,15 @@ pub fn by_library(trial: &StreamTrial) -> Outcome {
         })
     };
     outcome(trial, answer, sheet)
+}
+
+/// The words of both rows by which the library answers the commands, if it
+/// accepts the stream.
+pub fn words_by_library(stream: &Stream) -> Option<(Vec<u16>, Vec<u32>)> {
+    let commands = stream.commands.len();
+    let (mut words, mut free) = (vec![0; commands], vec![0; commands]);
+    let result = guarded(|| shelf::shelve(&stream.bytes(), &mut words, &mut free))?;
+    result.is_ok().then_some((words, free))
 }
 
 fn seen(refusal: shelf::PlanRefusal) -> Refusal {

@@ -116,6 +116,7 @@ mod tests {
             for (stream, lent, number, at) in [
                 (stream[..len - 1].to_vec(), 9, 3, len - 3),
                 ([&stream[..], &[9]].concat(), 9, 2, len),
+                ([&stream[..], &[5, 2]].concat(), 9, 18, len),
                 (second, 9, 4, len),
                 (stream.clone(), 6, 7, len),
                 (stream[..opening_len + 1].to_vec(), 0, 3, opening_len),

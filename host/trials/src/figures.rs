@@ -9,24 +9,25 @@ use crate::streams::StreamTrial;
 use crate::wire::{answer, Command, Stream};
 use crate::written::Written;
 
-/// A figure for each bin, beside the bin's number.
+/// A figure for each bin, beside the bin's number: those of production 0, then
+/// those of 1.
 pub type Figures = Vec<(u16, u64)>;
 
 /// The free units beside these answer words: the capacity less the stored sizes
-/// of all that was answered the same bin up to then and has not left it, and 0
-/// where no item came or went. `None` if a bin is given more than it holds, or
-/// gives more.
+/// of all that were answered the same bin of the production up to then and have
+/// not left it, and 0 where no item came or went. `None` if a bin is given more
+/// than it holds, or gives more.
 pub fn by_subtraction(stream: &Stream, words: &[u16]) -> Option<Vec<u32>> {
     let capacity = i64::from(stream.opening.capacity);
-    let mut loads: HashMap<u16, i64> = HashMap::new();
-    let answered = stream.commands.iter().zip(words);
-    let figures = answered.map(|(command, &word)| {
+    let mut loads: HashMap<(usize, u16), i64> = HashMap::new();
+    let answered = stream.commands.iter().zip(words).zip(stream.productions());
+    let figures = answered.map(|((command, &word), production)| {
         let (bin, change) = match (*command, answer(word)) {
             (Command::Shelve(size), Ok(bin)) => (bin, stream.opening.stored(size) as i64),
             (Command::Withdraw(number), Ok(bin)) => (bin, -(stream.stored_by(number)? as i64)),
             _ => return Some(0),
         };
-        let load = loads.entry(bin).or_default();
+        let load = loads.entry((production, bin)).or_default();
         *load += change;
         (0..=capacity)
             .contains(load)
@@ -35,15 +36,21 @@ pub fn by_subtraction(stream: &Stream, words: &[u16]) -> Option<Vec<u32>> {
     figures.collect()
 }
 
-/// The last figure that was answered for each bin, in rising number.
+/// The last figure that was answered for each bin, in rising number production
+/// by production.
 fn last_figures(stream: &Stream, words: &[u16], free: &[u32]) -> Figures {
     let answered = stream.commands.iter().zip(words).zip(free);
-    let moved = answered.filter_map(|((command, &word), &free)| match command {
-        Command::Shelve(_) | Command::Withdraw(_) => Some((answer(word).ok()?, free.into())),
-        Command::Count => None,
+    let answered = answered.zip(stream.productions());
+    let moved = answered.filter_map(|(((command, &word), &free), production)| match command {
+        Command::Shelve(_) | Command::Withdraw(_) => {
+            Some(((production, answer(word).ok()?), free.into()))
+        }
+        Command::Count | Command::Switch(_) => None,
     });
-    let last: BTreeMap<u16, u64> = moved.collect();
-    last.into_iter().collect()
+    let last: BTreeMap<(usize, u16), u64> = moved.collect();
+    last.into_iter()
+        .map(|((_, bin), free)| (bin, free))
+        .collect()
 }
 
 /// What stands in these columns of each bin's line on a sheet, beside the
@@ -82,6 +89,7 @@ mod tests {
     use crate::cases::{case, sample};
     use crate::paper::Totals;
     use crate::rows::Lent;
+    use crate::wire::Command::{Shelve, Switch, Withdraw};
     use crate::wire::{opening, refused_word as r};
 
     /// The fault of a stream of which the library says this.
@@ -141,7 +149,7 @@ mod tests {
     #[test]
     fn what_leaves_is_free_again() {
         let mut stream = Stream::of_sizes(opening(60, 4, 6), &[35, 22, 0]);
-        let named = [1, 2, 4, 0, 9].map(Command::Withdraw);
+        let named = [1, 2, 4, 0, 9].map(Withdraw);
         stream.commands.extend(named);
         let figures = |words: [u16; 5]| {
             let words = [&[1, 2, r(8)], &words[..]].concat();
@@ -164,7 +172,7 @@ mod tests {
     fn a_figure_without_its_trailer_is_found() {
         let opening = opening(60, 4, 6).with_trailer(5);
         let mut stream = Stream::of_sizes(opening, &[30, 17, u32::MAX]);
-        stream.commands.push(Command::Withdraw(1));
+        stream.commands.push(Withdraw(1));
         let words = [1, 2, r(9), 1];
         assert_eq!(found(stream.bytes(), &words, &[25, 38, 0, 60]), None);
         for wrong in [[30, 38, 0, 60], [25, 43, 0, 60], [25, 38, 0, 55]] {
@@ -175,9 +183,29 @@ mod tests {
     }
 
     #[test]
+    fn a_figure_is_of_the_own_production() {
+        let opening = opening(60, 4, 6);
+        let commands = [Shelve(35), Switch(1), Shelve(30), Shelve(30), Switch(0)];
+        let after = [Shelve(20), Withdraw(1)];
+        let commands = [&commands[..], &after].concat();
+        let stream = Stream { opening, commands };
+        let words = [1, 1, 1, 1, 0, 2, 1];
+        let free = [25, 0, 30, 0, 0, 40, 60];
+        assert_eq!(by_subtraction(&stream, &words), Some(free.to_vec()));
+        assert_eq!(found(stream.bytes(), &words, &free), None);
+        assert_eq!(
+            last_figures(&stream, &words, &free),
+            [(1, 60), (2, 40), (1, 0)]
+        );
+        let mut wrong = words;
+        wrong[5] = 1;
+        assert!(found(stream.bytes(), &wrong, &[25, 0, 30, 0, 0, 5, 40]).is_some());
+    }
+
+    #[test]
     fn a_wrong_figure_beside_a_withdrawal_is_found() {
         let mut stream = Stream::of_sizes(opening(60, 4, 6), &[35, 22]);
-        stream.commands.push(Command::Withdraw(1));
+        stream.commands.push(Withdraw(1));
         assert_eq!(found(stream.bytes(), &[1, 2, 1], &[25, 38, 60]), None);
         for wrong in [0, 25, 59] {
             assert!(found(stream.bytes(), &[1, 2, 1], &[25, 38, wrong]).is_some());

@@ -63,11 +63,11 @@ mod tests {
     use super::*;
     use crate::cases::{case, sent};
     use crate::paper::Totals;
-    use crate::wire::Command::{Count, Shelve, Withdraw};
+    use crate::wire::Command::{Count, Shelve, Switch, Withdraw};
     use crate::wire::{opening, refused_word as r};
     use crate::written::Written;
 
-    const COMMANDS: [Command; 7] = [
+    const COMMANDS: [Command; 10] = [
         Withdraw(3),
         Shelve(0),
         Shelve(35),
@@ -75,9 +75,12 @@ mod tests {
         Shelve(20),
         Withdraw(3),
         Count,
+        Switch(1),
+        Withdraw(5),
+        Shelve(60),
     ];
-    const WORDS: [u16; 7] = [r(17), r(8), 1, r(17), 2, 1, 2];
-    const FREE: [u32; 7] = [0, 0, 25, 0, 40, 60, 0];
+    const WORDS: [u16; 10] = [r(17), r(8), 1, r(17), 2, 1, 2, 1, r(17), 1];
+    const FREE: [u32; 10] = [0, 0, 25, 0, 40, 60, 0, 0, 0, 0];
 
     fn totals(items: usize, opened: usize) -> Totals {
         Totals { items, opened }
@@ -89,8 +92,16 @@ mod tests {
         let opening = opening(60, 4, 6);
         let stream = Stream { opening, commands };
         let (kept, places) = kept(&stream, &WORDS).expect("none names a refused command");
-        assert_eq!(kept.commands, [Shelve(35), Shelve(20), Withdraw(1), Count]);
-        assert_eq!(places, [2, 4, 5, 6]);
+        let expected = [
+            Shelve(35),
+            Shelve(20),
+            Withdraw(1),
+            Count,
+            Switch(1),
+            Shelve(60),
+        ];
+        assert_eq!(kept.commands, expected);
+        assert_eq!(places, [2, 4, 5, 6, 7, 9]);
         let mut words = WORDS;
         words[3] = 1;
         assert!(super::kept(&stream, &words).is_none());
@@ -102,24 +113,24 @@ mod tests {
         let found = |totals: Totals, words: &[u16], free: &[u32]| {
             fault(&trial, &Outcome::accepted(&trial, totals, words, free))
         };
-        assert_eq!(found(totals(1, 2), &WORDS, &FREE), None);
+        assert_eq!(found(totals(2, 3), &WORDS, &FREE), None);
         let mut words = WORDS;
         words[3] = 1;
         let expected = Some("a refused command is named, and what names it is not refused");
-        assert_eq!(found(totals(1, 2), &words, &FREE), expected);
-        for place in [2, 4, 5, 6] {
+        assert_eq!(found(totals(2, 3), &words, &FREE), expected);
+        for place in [2, 4, 5, 6, 7, 9] {
             let mut words = WORDS;
             words[place] += 1;
             let expected = Some("without the refused commands an answer is another");
-            assert_eq!(found(totals(1, 2), &words, &FREE), expected, "{place}");
+            assert_eq!(found(totals(2, 3), &words, &FREE), expected, "{place}");
             let mut free = FREE;
             free[place] += 1;
             let expected = Some("without the refused commands the free units are others");
-            assert_eq!(found(totals(1, 2), &WORDS, &free), expected, "{place}");
+            assert_eq!(found(totals(2, 3), &WORDS, &free), expected, "{place}");
         }
         let expected = Some("without the refused commands the totals are others");
-        assert_eq!(found(totals(2, 2), &WORDS, &FREE), expected);
-        let mut outcome = Outcome::accepted(&trial, totals(1, 2), &WORDS, &FREE);
+        assert_eq!(found(totals(3, 3), &WORDS, &FREE), expected);
+        let mut outcome = Outcome::accepted(&trial, totals(2, 3), &WORDS, &FREE);
         outcome.sheet = Written::text(trial.fill, "");
         let expected = Some("without the refused commands the sheet is another");
         assert_eq!(fault(&trial, &outcome), expected);

@@ -156,7 +156,7 @@ pub fn bad_size(rng: &mut Rng, opening: Opening) -> u32 {
 }
 
 /// So many commands: items, good and bad, and counts.
-fn mixed(rng: &mut Rng, opening: Opening, sizes: Sizes, len: usize) -> Stream {
+pub fn mixed(rng: &mut Rng, opening: Opening, sizes: Sizes, len: usize) -> Stream {
     let mut command = || match rng.between(0, 99) {
         0..=5 => Count,
         6..=10 => Shelve(bad_size(rng, opening)),

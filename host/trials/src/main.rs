@@ -4,9 +4,9 @@
 //! a count reads is no part of the interface, and is compared with what a
 //! program of its own prints ([`walk`]).
 //!
-//! `trials [--streams N] [--withdrawals N] [--plans N] [--seed S] [--count-walk
-//! PROGRAM]`. The first difference is made small and printed with both answers,
-//! and the exit status is 1.
+//! `trials [--streams N] [--withdrawals N] [--productions N] [--plans N] [--seed
+//! S] [--count-walk PROGRAM]`. The first difference is made small and printed with
+//! both answers, and the exit status is 1.
 
 mod cases;
 mod checks;
@@ -16,13 +16,18 @@ mod families;
 mod fewest;
 mod figures;
 mod free_cases;
+mod independence;
 mod left_out;
 mod lists;
+mod making;
 mod met;
 mod paper;
 mod plans;
+mod production_cases;
+mod productions;
 mod rng;
 mod rows;
+mod shared;
 mod sheet;
 mod sheet_cases;
 mod smaller;
@@ -47,14 +52,15 @@ use met::Met;
 use paper::Shelved;
 use plans::PlanTrial;
 use rng::Rng;
+use shared::Shared;
 use smaller::{show_plan, show_stream, show_walk};
 use streams::{StreamTrial, COUNTS};
 use trailers::Trailers;
 use walk::{Found, Program};
-use wire::{answer, Command, Stream};
+use wire::{Stream, PRODUCTIONS};
 
-const USAGE: &str = "usage: trials [--streams N] [--withdrawals N] [--plans N] [--seed S] \
-                     [--count-walk PROGRAM]";
+const USAGE: &str = "usage: trials [--streams N] [--withdrawals N] [--productions N] [--plans N] \
+                     [--seed S] [--count-walk PROGRAM]";
 
 /// The longest list whose fewest bins are searched for.
 const SHORT: usize = 13;
@@ -66,6 +72,7 @@ const WALKED: u64 = 20;
 struct Settings {
     streams: u64,
     withdrawals: u64,
+    productions: u64,
     plans: u64,
     seed: u64,
     count_walk: Option<Program>,
@@ -83,6 +90,12 @@ impl Settings {
         withdrawals::random(&mut Rng::of_trial(self.seed, !index))
     }
 
+    /// The trial of two productions of this number: likewise, with a seed of its
+    /// own.
+    fn production(&self, index: u64) -> StreamTrial {
+        productions::random(&mut Rng::of_trial(!self.seed, !index))
+    }
+
     /// The plan trial of this number.
     fn plan(&self, index: u64) -> PlanTrial {
         plans::random(&mut Rng::of_trial(self.seed, 2 * index + 1))
@@ -94,6 +107,7 @@ fn settings() -> Option<Settings> {
     let mut settings = Settings {
         streams: 10_000,
         withdrawals: 10_000,
+        productions: 10_000,
         plans: 10_000,
         seed: now.as_nanos() as u64 % 1_000_000_000,
         count_walk: None,
@@ -105,6 +119,7 @@ fn settings() -> Option<Settings> {
         match arg.as_str() {
             "--streams" => settings.streams = number()?,
             "--withdrawals" => settings.withdrawals = number()?,
+            "--productions" => settings.productions = number()?,
             "--plans" => settings.plans = number()?,
             "--seed" => settings.seed = number()?,
             "--count-walk" => settings.count_walk = Some(Program(value.into())),
@@ -152,24 +167,24 @@ fn run(settings: &Settings) -> Result<(), Failure> {
     }
     println!("named cases: {} checks", cases.tried);
 
-    let mut tally = Tally::default();
-    for index in 0..settings.streams {
-        let difference = |what| Failure::Difference(format!("stream trial {index}, {what}"));
-        try_stream(settings.stream(index), &mut tally).map_err(difference)?;
-    }
+    let stream = |index| settings.stream(index);
+    let tally = try_streams("stream", settings.streams, stream, |_| {})?;
     println!("{tally}");
 
-    let mut tally = Tally::default();
     let mut met = Met::default();
-    for index in 0..settings.withdrawals {
-        let trial = settings.withdrawal(index);
-        if let Ok(stream) = Stream::read(&trial.stream) {
-            met.add(&stream);
-        }
-        let difference = |what| Failure::Difference(format!("withdrawal trial {index}, {what}"));
-        try_stream(trial, &mut tally).map_err(difference)?;
-    }
+    let withdrawal = |index| settings.withdrawal(index);
+    let add = |trial: &StreamTrial| met.add(trial);
+    let tally = try_streams("withdrawal", settings.withdrawals, withdrawal, add)?;
     println!("with withdrawals, {tally}\n{met}");
+
+    let (mut met, mut shared) = (Met::default(), Shared::default());
+    let production = |index| settings.production(index);
+    let add = |trial: &StreamTrial| {
+        met.add(trial);
+        shared.add(trial);
+    };
+    let tally = try_streams("production", settings.productions, production, add)?;
+    println!("with two productions, {tally}\n{met}\n{shared}");
 
     match program {
         Some(program) => {
@@ -224,6 +239,23 @@ impl std::fmt::Display for Tally {
     }
 }
 
+/// Tries so many streams, and has each added to what the run came across.
+fn try_streams(
+    name: &str,
+    trials: u64,
+    trial: impl Fn(u64) -> StreamTrial,
+    mut add: impl FnMut(&StreamTrial),
+) -> Result<Tally, Failure> {
+    let mut tally = Tally::default();
+    for index in 0..trials {
+        let trial = trial(index);
+        add(&trial);
+        let difference = |what| Failure::Difference(format!("{name} trial {index}, {what}"));
+        try_stream(trial, &mut tally).map_err(difference)?;
+    }
+    Ok(tally)
+}
+
 fn try_stream(trial: StreamTrial, tally: &mut Tally) -> Result<(), String> {
     tally.streams += 1;
     let kind = trial.kind;
@@ -247,7 +279,9 @@ fn try_stream(trial: StreamTrial, tally: &mut Tally) -> Result<(), String> {
             };
             return Err(format!("{kind}: {fault}\n{}", show_stream(trial, faulty)));
         }
-        let figures = shelved.packing.counts.iter().map(|(walk, _)| walk.figure);
+        let productions = shelved.packing.productions.iter();
+        let counts = productions.flat_map(|production| &production.counts);
+        let figures = counts.map(|(walk, _)| walk.figure);
         tally.counts.add(shelved.packing.opening.stock, figures);
     }
     match worst_excess(&trial, &outcome, tally) {
@@ -264,34 +298,33 @@ fn try_stream(trial: StreamTrial, tally: &mut Tally) -> Result<(), String> {
     }
 }
 
-/// The largest `3 * opened - 5 * k` of an accepted stream up to its first
-/// accepted withdrawal, by the library's own answers: after every command with
-/// the fewest bins k if the list is short, else at the end with the k of
-/// first-fit decreasing.
+/// The largest `3 * opened - 5 * k` of a production of an accepted stream up to
+/// its first accepted withdrawal, by the library's own answers. None, where
+/// nothing is accepted.
 fn worst_excess(trial: &StreamTrial, outcome: &Outcome, tally: &mut Tally) -> Option<i64> {
     outcome.totals()?;
-    let mut stream = Stream::read(&trial.stream).ok()?;
+    let stream = Stream::read(&trial.stream).ok()?;
     let words = outcome.rows.answers();
-    let mut answered = stream.commands.iter().zip(words);
-    let withdrawn = |(command, &word): (&Command, &u16)| {
-        matches!(command, Command::Withdraw(_)) && answer(word).is_ok()
-    };
-    if let Some(first) = answered.position(withdrawn) {
-        stream.commands.truncate(first);
-    }
-    let capacity = stream.opening.capacity;
-    let placed = stream.placed(words);
+    let lists = (0..PRODUCTIONS).map(|production| stream.placed(words, production));
+    let worst = lists.filter_map(|placed| worst_of(&placed, stream.opening.capacity, tally));
+    worst.max()
+}
+
+/// The same of one production's items, each with its bin: after every item with
+/// the fewest bins k if the list is short, else at the end with the k of
+/// first-fit decreasing.
+fn worst_of(placed: &[(u32, u32)], capacity: u32, tally: &mut Tally) -> Option<i64> {
+    let most = placed.iter().map(|&(_, bin)| bin as usize).max()?;
     let excess = |opened: usize, k: usize| 3 * opened as i64 - 5 * k as i64;
     if placed.len() > SHORT {
         let items: Vec<u32> = placed.iter().map(|&(size, _)| size).collect();
-        let opened = placed.iter().map(|&(_, bin)| bin as usize).max()?;
         let (_, k) = first_fit_decreasing(&items, capacity);
-        return Some(excess(opened, k as usize));
+        return Some(excess(most, k as usize));
     }
     let mut fewest = Fewest::new(capacity.into());
     let mut opened = 0;
     let mut worst = 0;
-    for (size, bin) in placed {
+    for &(size, bin) in placed {
         fewest.add(size.into());
         opened = opened.max(bin as usize);
         worst = worst.max(excess(opened, fewest.bins()));
@@ -306,9 +339,10 @@ fn worst_excess(trial: &StreamTrial, outcome: &Outcome, tally: &mut Tally) -> Op
 fn try_walks(settings: &Settings, program: &Program) -> Result<String, Failure> {
     let streams = (0..settings.streams).map(|index| (index, settings.stream(index)));
     let withdrawals = (0..settings.withdrawals).map(|index| (index, settings.withdrawal(index)));
+    let productions = (0..settings.productions).map(|index| (index, settings.production(index)));
     let mut compared = 0;
     let mut found = Found::default();
-    for (index, trial) in streams.chain(withdrawals) {
+    for (index, trial) in streams.chain(withdrawals).chain(productions) {
         if trial.kind != COUNTS && index % WALKED != 0 {
             continue;
         }
@@ -318,8 +352,9 @@ fn try_walks(settings: &Settings, program: &Program) -> Result<String, Failure> 
             return Err(Failure::Difference(difference));
         }
         compared += 1;
-        if let Ok(Shelved { packing, walk, .. }) = paper::shelve(&trial.stream) {
-            found.add(packing.opening.stock, std::iter::once(walk.figure));
+        if let Ok(Shelved { packing, walks, .. }) = paper::shelve(&trial.stream) {
+            let figures = walks.into_iter().map(|walk| walk.figure);
+            found.add(packing.opening.stock, figures);
         }
     }
     Ok(format!("{compared} random streams, of these {found}"))
@@ -342,7 +377,7 @@ mod tests {
     use crate::cases::{case, sent};
     use crate::rows::Lent;
     use crate::wire::opening;
-    use crate::wire::Command::{Shelve, Withdraw};
+    use crate::wire::Command::{Shelve, Switch, Withdraw};
 
     /// The list that does worst, five for two, and six that fill as many; with
     /// one of them taken out, or not, in between.
@@ -359,6 +394,20 @@ mod tests {
         };
         assert_eq!(worst(1), (Some(5), 5));
         assert_eq!(worst(6), (Some(5), 11));
+    }
+
+    /// The same in one production, where the other takes out its only item.
+    #[test]
+    fn the_fewest_are_those_of_each_production() {
+        let mut commands = vec![Shelve(11), Switch(1)];
+        commands.extend([6, 5, 6, 4, 1].map(Shelve));
+        commands.extend([Switch(0), Withdraw(1), Shelve(11), Switch(1)]);
+        commands.extend([Shelve(11); 6]);
+        let lent = Lent::both(commands.len());
+        let trial = case(sent(opening(11, 512, 6), &commands), lent);
+        let mut tally = Tally::default();
+        let worst = worst_excess(&trial, &by_paper(&trial), &mut tally);
+        assert_eq!((worst, tally.prefixes), (Some(5), 1 + 11));
     }
 
     /// By their stored sizes two go into a bin, by the bare ones all twelve.

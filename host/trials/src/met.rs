@@ -4,6 +4,7 @@ use std::collections::HashSet;
 use std::fmt;
 
 use crate::paper::{size_class, Packing, SizeClass};
+use crate::streams::StreamTrial;
 use crate::wire::{answer, Command, Stream, MOST_COMMANDS};
 
 /// What a refused withdrawal names.
@@ -15,19 +16,23 @@ enum Named {
     AboveAll,
     Count,
     Withdrawal,
+    Switch,
     Refused,
     Out,
+    OthersItem,
 }
 
-const NAMED: [(Named, &str); 8] = [
+const NAMED: [(Named, &str); 10] = [
     (Named::Zero, "0"),
     (Named::Itself, "itself"),
     (Named::Later, "a later number"),
     (Named::AboveAll, "one above 4,096"),
     (Named::Count, "a count"),
     (Named::Withdrawal, "a withdrawal"),
+    (Named::Switch, "a switch"),
     (Named::Refused, "a refused master"),
     (Named::Out, "one already out"),
+    (Named::OthersItem, "one of the other production"),
 ];
 
 /// How often something was met, by the paper.
@@ -48,13 +53,19 @@ pub struct Met {
 }
 
 impl Met {
-    /// Adds what is met in a stream.
-    pub fn add(&mut self, Stream { opening, commands }: &Stream) {
+    /// Adds what is met in a stream, if it has no fault.
+    pub fn add(&mut self, trial: &StreamTrial) {
+        if let Ok(stream) = Stream::read(&trial.stream) {
+            self.add_accepted(&stream);
+        }
+    }
+
+    fn add_accepted(&mut self, Stream { opening, commands }: &Stream) {
         let mut shelf = Packing::new(*opening);
         let mut out = HashSet::new();
         let mut withdrawn_since_10 = None;
         for (number, &command) in (1..).zip(commands) {
-            let opened = shelf.bins.len();
+            let opened = shelf.current().bins.len();
             match (command, answer(shelf.answer(number, command).0)) {
                 (Command::Shelve(size), Ok(bin)) => {
                     self.placed(&shelf, opening.stored(size), bin.into(), opened);
@@ -62,7 +73,7 @@ impl Met {
                 }
                 (Command::Shelve(_), Err(10)) => withdrawn_since_10 = Some(false),
                 (Command::Withdraw(named), Ok(bin)) => {
-                    let bin = &shelf.bins[usize::from(bin) - 1];
+                    let bin = &shelf.current().bins[usize::from(bin) - 1];
                     self.emptied[bin.class as usize - 1] += u64::from(bin.items.is_empty());
                     self.taken_out += 1;
                     out.insert(named);
@@ -77,22 +88,25 @@ impl Met {
                         earlier => match commands[earlier - 1] {
                             Command::Count => Named::Count,
                             Command::Withdraw(_) => Named::Withdrawal,
+                            Command::Switch(_) => Named::Switch,
                             Command::Shelve(_) if out.contains(&named) => Named::Out,
+                            Command::Shelve(_) if shelf.other().holds(earlier) => Named::OthersItem,
                             Command::Shelve(_) => Named::Refused,
                         },
                     };
                     self.refused[named as usize] += 1;
                 }
-                (Command::Shelve(_), Err(_)) | (Command::Count, _) => {}
+                (Command::Shelve(_), Err(_)) | (Command::Count | Command::Switch(_), _) => {}
             }
         }
     }
 
-    /// Adds an item of this stored size in this bin, when so many bins were
-    /// opened.
+    /// Adds an item of this stored size in this bin, when so many bins of its
+    /// production were opened.
     fn placed(&mut self, shelf: &Packing, size: u64, bin: usize, opened: usize) {
         let capacity = u64::from(shelf.opening.capacity);
-        let (passed, bin) = (&shelf.bins[..bin - 1], &shelf.bins[bin - 1]);
+        let bins = &shelf.current().bins;
+        let (passed, bin) = (&bins[..bin - 1], &bins[bin - 1]);
         if passed.len() < opened && bin.items.len() == 1 {
             self.chosen_again[bin.class as usize - 1] += 1;
         }
@@ -136,15 +150,14 @@ impl fmt::Display for Met {
 mod tests {
     use super::*;
     use crate::rng::Rng;
-    use crate::withdrawals;
+    use crate::{productions, withdrawals};
 
     #[test]
     fn all_is_met_in_a_short_run() {
         let mut met = Met::default();
         for index in 0..500 {
-            let trial = withdrawals::random(&mut Rng::of_trial(1, index));
-            if let Ok(stream) = Stream::read(&trial.stream) {
-                met.add(&stream);
+            for random in [withdrawals::random, productions::random] {
+                met.add(&random(&mut Rng::of_trial(1, index)));
             }
         }
         let rest = [met.taken_out, met.past_empty, met.past_b2, met.after_10];

@@ -2,7 +2,8 @@
 //! nothing with the library or its wrapper: bins are lists of items, a search
 //! is a scan, a load is a sum. [`wire`](crate::wire) is its reader.
 
-use crate::wire::{refuse, refused_word, Command, Opening, Refusal, Stream, MOST_CAPACITY};
+use crate::wire::{refuse, refused_word, Command, Opening, Refusal, Stream};
+use crate::wire::{MOST_CAPACITY, PRODUCTIONS};
 
 /// The most entries of a plan and of its items, and the largest k.
 pub const MOST_ENTRIES: usize = 4096;
@@ -61,22 +62,77 @@ pub struct Walk {
     pub places: usize,
 }
 
-pub struct Packing {
-    pub opening: Opening,
+/// What a production has for itself.
+#[derive(Default)]
+pub struct Production {
     pub bins: Vec<Bin>,
     /// The walk of each count, beside the number of bins at that time.
     pub counts: Vec<(Walk, usize)>,
     b2_accepted: usize,
 }
 
+impl Production {
+    /// Counts the opened bins: reads one place of the stock after another, from
+    /// the first, and stops at the first whose bin is not yet opened.
+    fn walk(&self, stock: u16) -> Walk {
+        let mut walk = Walk {
+            figure: 0,
+            places: 0,
+        };
+        for place in 0..stock.into() {
+            walk.places += 1;
+            match self.bins.get(place) {
+                Some(_) => walk.figure += 1,
+                None => break,
+            }
+        }
+        walk
+    }
+
+    /// Whether the item of the command with this number lies on one of the bins.
+    pub fn holds(&self, number: usize) -> bool {
+        let mut items = self.bins.iter().flat_map(|bin| &bin.items);
+        items.any(|item| item.number == number)
+    }
+}
+
+/// The productions over their one stock.
+pub struct Packing {
+    pub opening: Opening,
+    pub productions: [Production; PRODUCTIONS],
+    /// The production that commands belong to.
+    current: usize,
+}
+
 impl Packing {
     pub fn new(opening: Opening) -> Self {
         Self {
             opening,
-            bins: Vec::new(),
-            counts: Vec::new(),
-            b2_accepted: 0,
+            productions: Default::default(),
+            current: 0,
         }
+    }
+
+    /// The production that the next command belongs to.
+    pub fn current(&self) -> &Production {
+        &self.productions[self.current]
+    }
+
+    /// The one that it does not belong to.
+    pub fn other(&self) -> &Production {
+        &self.productions[1 - self.current]
+    }
+
+    /// The bins of both.
+    pub fn bins(&self) -> impl Iterator<Item = &Bin> {
+        self.productions
+            .iter()
+            .flat_map(|production| &production.bins)
+    }
+
+    /// Whether both together have opened the whole stock.
+    fn is_spent(&self) -> bool {
+        self.bins().count() == self.opening.stock.into()
     }
 
     /// Places the item of the command with this number: the number of its bin,
@@ -90,8 +146,10 @@ impl Packing {
         if size > capacity {
             return Err(9);
         }
+        let is_spent = self.is_spent();
+        let own = &mut self.productions[self.current];
         let is_b2 = size_class(size, capacity) == SizeClass::B2;
-        let beside_an_a = is_b2 && (self.b2_accepted + 1).is_multiple_of(self.opening.m.into());
+        let beside_an_a = is_b2 && (own.b2_accepted + 1).is_multiple_of(self.opening.m.into());
         let class = match size_class(size, capacity) {
             SizeClass::A => 1,
             SizeClass::B1 => 2,
@@ -106,26 +164,28 @@ impl Packing {
             };
             bin.class == class && bin.load() + size <= capacity && (!beside_an_a || holds_an_a())
         };
-        let place = match self.bins.iter().position(permitted) {
+        let place = match own.bins.iter().position(permitted) {
             Some(place) => place,
-            None if self.bins.len() == self.opening.stock.into() => return Err(10),
+            None if is_spent => return Err(10),
             None => {
                 let items = Vec::new();
-                self.bins.push(Bin { class, items });
-                self.bins.len() - 1
+                own.bins.push(Bin { class, items });
+                own.bins.len() - 1
             }
         };
-        self.bins[place].items.push(Item { number, size });
+        own.bins[place].items.push(Item { number, size });
         if is_b2 {
-            self.b2_accepted += 1;
+            own.b2_accepted += 1;
         }
         Ok(place + 1)
     }
 
     /// Takes out the item of the command with this number: the number of the
-    /// bin that it leaves, or the refusal's number if it is on none.
+    /// bin that it leaves, or the refusal's number if it is on none of this
+    /// production's.
     fn take_out(&mut self, number: usize) -> Result<usize, u16> {
-        for (bin, Bin { items, .. }) in (1..).zip(&mut self.bins) {
+        let own = &mut self.productions[self.current];
+        for (bin, Bin { items, .. }) in (1..).zip(&mut own.bins) {
             if let Some(place) = items.iter().position(|item| item.number == number) {
                 items.remove(place);
                 return Ok(bin);
@@ -139,47 +199,39 @@ impl Packing {
         u64::from(self.opening.capacity) - bin.load()
     }
 
-    /// Counts the opened bins: reads one place of the stock after another, from
-    /// the first, and stops at the first whose bin is not yet opened.
-    fn walk(&self) -> Walk {
-        let mut walk = Walk {
-            figure: 0,
-            places: 0,
-        };
-        for place in 0..self.opening.stock.into() {
-            walk.places += 1;
-            match self.bins.get(place) {
-                Some(_) => walk.figure += 1,
-                None => break,
-            }
-        }
-        walk
-    }
-
     /// Does what the command of this number asks; its word in each row.
     pub fn answer(&mut self, number: usize, command: Command) -> (u16, u32) {
         let bin = match command {
             Command::Count => {
-                let walk = self.walk();
-                self.counts.push((walk, self.bins.len()));
+                let own = &mut self.productions[self.current];
+                let walk = own.walk(self.opening.stock);
+                own.counts.push((walk, own.bins.len()));
                 return (walk.figure as u16, 0);
+            }
+            Command::Switch(production) => {
+                self.current = production.into();
+                return (production.into(), 0);
             }
             Command::Shelve(size) => self.place(number, size),
             Command::Withdraw(named) => self.take_out(named.into()),
         };
         match bin {
-            Ok(bin) => (bin as u16, self.free_units(&self.bins[bin - 1]) as u32),
+            Ok(bin) => {
+                let free = self.free_units(&self.current().bins[bin - 1]);
+                (bin as u16, free as u32)
+            }
             Err(refusal) => (refused_word(refusal), 0),
         }
     }
 }
 
 /// What is made of a stream without a fault: each command's word in each row,
-/// the packing that it leaves, and a walk over that after the last command.
+/// the packing that it leaves, and each production's walk over that after the
+/// last command.
 pub struct Shelved {
     answers: Vec<(u16, u32)>,
     pub packing: Packing,
-    pub walk: Walk,
+    pub walks: [Walk; PRODUCTIONS],
 }
 
 /// Shelves a stream, whatever rows are lent with it: any refusal but 7.
@@ -190,7 +242,10 @@ pub fn shelve(stream: &[u8]) -> Result<Shelved, Refusal> {
     let answers = numbered.map(|(number, command)| packing.answer(number, command));
     Ok(Shelved {
         answers: answers.collect(),
-        walk: packing.walk(),
+        walks: packing
+            .productions
+            .each_ref()
+            .map(|production| production.walk(opening.stock)),
         packing,
     })
 }
@@ -214,8 +269,8 @@ pub fn answer(
         (words[place], free[place]) = answer;
     }
     Ok(Totals {
-        items: packing.bins.iter().map(|bin| bin.items.len()).sum(),
-        opened: packing.bins.len(),
+        items: packing.bins().map(|bin| bin.items.len()).sum(),
+        opened: packing.bins().count(),
     })
 }
 

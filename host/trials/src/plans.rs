@@ -79,7 +79,7 @@ fn own_answers(rng: &mut Rng) -> PlanTrial {
     let mut free = vec![0; sent.len()];
     let shelved = shelf::shelve(&stream.bytes(), &mut words, &mut free);
     let totals = shelved.expect("a well-formed stream");
-    let (items, bins) = stream.placed(&words).into_iter().unzip();
+    let (items, bins) = stream.placed(&words, 0).into_iter().unzip();
     passing("own answers", items, bins, capacity, totals.opened.into())
 }
 

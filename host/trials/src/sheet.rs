@@ -7,10 +7,11 @@ use crate::wire::{Refusal, MOST_PRINTED, MOST_STOCK};
 
 const LINE: usize = 40;
 const LINES_A_PAGE: usize = 50;
-/// The longest sheet: every bin of the largest stock, and the pages it takes.
+/// The longest sheet: every bin of the largest stock, and the pages it takes,
+/// one more where the second production has to start a new one.
 pub const MOST_BYTES: usize = {
     let bins = MOST_STOCK as usize;
-    (LINE + 1) * (bins + bins.div_ceil(LINES_A_PAGE))
+    (LINE + 1) * (bins + bins.div_ceil(LINES_A_PAGE) + 1)
 };
 
 /// What is printed of a stream: its sheet, or the line of one that is refused.
@@ -25,12 +26,16 @@ pub fn sheet(stream: &[u8], shelved: &Result<Shelved, Refusal>) -> String {
 }
 
 fn pages(packing: &Packing) -> String {
-    let numbered: Vec<(usize, &Bin)> = (1..).zip(&packing.bins).collect();
     let mut sheet = String::new();
-    for (page, bins) in (1..).zip(numbered.chunks(LINES_A_PAGE)) {
-        sheet += &line(&format!("PAGE {page:>3}"));
-        for (number, bin) in bins {
-            sheet += &line(&cartridge(*number, bin, packing));
+    let mut page = 0;
+    for production in &packing.productions {
+        let numbered: Vec<(usize, &Bin)> = (1..).zip(&production.bins).collect();
+        for bins in numbered.chunks(LINES_A_PAGE) {
+            page += 1;
+            sheet += &line(&format!("PAGE {page:>3}"));
+            for (number, bin) in bins {
+                sheet += &line(&cartridge(*number, bin, packing));
+            }
         }
     }
     sheet

@@ -1,10 +1,10 @@
 //! The vault sheet's cases by name, their texts written out from the request.
 
-use crate::cases::{case, sample, sent, Cases};
+use crate::cases::{case, sample, sent, BinLine, Cases};
 use crate::compare::{by_library, by_paper};
 use crate::rows::Lent;
 use crate::wire::Command::{Count, Shelve};
-use crate::wire::{opening, Opening, Stream, MOST_CAPACITY, MOST_PRINTED};
+use crate::wire::{opening, Opening, Stream, MOST_CAPACITY, MOST_PRINTED, PRODUCTIONS};
 use crate::written::{difference, Written};
 
 const OPEN: Opening = opening(60, 512, 6);
@@ -24,18 +24,28 @@ impl Cases {
     }
 }
 
-/// The text of a sheet with these classes, loads and items held.
-pub fn sheet(capacity: u32, bins: &[(u32, u32, u32)]) -> String {
+/// The text of a sheet with these bins, all of one production.
+pub fn sheet(capacity: u32, bins: &[BinLine]) -> String {
+    sheets(capacity, [bins, &[]])
+}
+
+/// The text of a sheet with these bins of either production. The pages of the
+/// second are numbered on from those of the first.
+pub fn sheets(capacity: u32, productions: [&[BinLine]; PRODUCTIONS]) -> String {
     let mut text = String::new();
-    for (place, (class, load, held)) in bins.iter().enumerate() {
-        if place % 50 == 0 {
-            text += &format!("PAGE {:>3}{:32}\n", place / 50 + 1, "");
+    let mut page = 0;
+    for bins in productions {
+        for (place, (class, load, held)) in bins.iter().enumerate() {
+            if place % 50 == 0 {
+                page += 1;
+                text += &format!("PAGE {page:>3}{:32}\n", "");
+            }
+            let (number, free) = (place + 1, capacity - load);
+            text += &format!(
+                "{number:>4} {class} {load:>8} {free:>8} {held:>4}{:11}\n",
+                ""
+            );
         }
-        let (number, free) = (place + 1, capacity - load);
-        text += &format!(
-            "{number:>4} {class} {load:>8} {free:>8} {held:>4}{:11}\n",
-            ""
-        );
     }
     text
 }
@@ -101,8 +111,6 @@ fn pages(cases: &mut Cases) {
     let spent = Stream::of_sizes(OPEN, &[60; 4096]);
     let name = "a sheet with the stock spent";
     cases.sheet(name, spent.bytes(), &full(512));
-    let length = full(512).len();
-    cases.check("the longest sheet", length == 21_443, || length.to_string());
 }
 
 fn widest_numbers(cases: &mut Cases) {
@@ -132,7 +140,9 @@ fn refused_streams(cases: &mut Cases) {
     let trailed = sent(OPEN.with_trailer(5), &[Shelve(55), Count]);
     let refused = [
         (vec![], "X 1 0\n"),
-        ([&shelved[..], &[0x05]].concat(), "X 2 14\n"),
+        ([&shelved[..], &[0x08]].concat(), "X 2 14\n"),
+        ([&shelved[..], &[0x05]].concat(), "X 3 14\n"),
+        ([&shelved[..], &[0x05, 0x02]].concat(), "X 18 14\n"),
         ([&shelved[..], &[0x04, 0x00]].concat(), "X 3 14\n"),
         (shelved[..12].to_vec(), "X 3 8\n"),
         ([&shelved[..], &shelved].concat(), "X 4 14\n"),

@@ -74,6 +74,10 @@ fn lowered(part: Part) -> Vec<Part> {
             let commands = lower(number.into()).map(|n| Command::Withdraw(n as u16));
             commands.map(Part::Command).collect()
         }
+        Part::Command(Command::Switch(production)) => {
+            let commands = lower(production.into()).map(|n| Command::Switch(n as u8));
+            commands.map(Part::Command).collect()
+        }
         _ => Vec::new(),
     }
 }
@@ -215,8 +219,8 @@ pub fn show_stream(trial: StreamTrial, fails: impl Fn(&StreamTrial) -> bool) -> 
     )
 }
 
-/// Shrinks a stream of which the program prints another walk than the paper's
-/// and shows it with both.
+/// Shrinks a stream of which the program prints other walks than the paper's and
+/// shows it with both.
 pub fn show_walk(trial: StreamTrial, program: &Program) -> String {
     // No row is lent to the program, so none is to be made shorter.
     let lent = Lent::both(0);

@@ -1,22 +1,32 @@
 //! Which items are still shelved, by the answers alone and without the method;
-//! and what has to go by them: the totals, the counts, the vault sheet and the
-//! shelf's own plan.
+//! and what has to go by them: the totals, the counts, the vault sheet and each
+//! production's own plan.
 
 use crate::compare::{plan_by_library, Outcome};
 use crate::figures::{on_sheet, Figures};
 use crate::paper::Totals;
 use crate::plans::PlanTrial;
 use crate::streams::StreamTrial;
-use crate::wire::{answer, entry_size, Command, Opening, Stream};
+use crate::wire::{answer, entry_size, Command, Opening, Stream, PRODUCTIONS};
+
+/// An item on the shelf as the answers tell it.
+#[derive(Clone, Copy)]
+struct Item {
+    production: usize,
+    /// Its stored size.
+    size: u64,
+    bin: u16,
+}
 
 /// The shelf as the answers tell it.
 struct Told {
     opening: Opening,
-    /// The item of each command so far, its stored size and its bin, while it is
-    /// shelved.
-    items: Vec<Option<(u64, u16)>>,
-    /// The bins that were opened, emptied or not.
-    opened: u16,
+    /// The production that the next command belongs to.
+    current: usize,
+    /// The item of each command so far, while it is shelved.
+    items: Vec<Option<Item>>,
+    /// The bins that each production opened, emptied or not.
+    opened: [u16; PRODUCTIONS],
 }
 
 impl Told {
@@ -24,28 +34,45 @@ impl Told {
     fn new(opening: Opening) -> Self {
         Self {
             opening,
+            current: 0,
             items: Vec::new(),
-            opened: 0,
+            opened: [0; PRODUCTIONS],
         }
     }
 
     /// Takes in the answer to the next command, or says why it cannot be
     /// answered so.
     fn take_in(&mut self, command: Command, word: u16) -> Result<(), &'static str> {
+        let production = self.current;
+        let opened = self.opened[production];
+        let is_spent = self.opened.iter().sum::<u16>() == self.opening.stock;
         let mut item = None;
         match (command, answer(word)) {
             (Command::Shelve(size), Ok(bin)) => {
-                if !(1..=self.opened + 1).contains(&bin) {
+                if !(1..=opened + 1).contains(&bin) {
                     return Err("a cartridge is opened out of turn");
                 }
-                self.opened = self.opened.max(bin);
-                item = Some((self.opening.stored(size), bin));
+                if bin > opened && is_spent {
+                    return Err("a cartridge is opened though the stock is spent");
+                }
+                self.opened[production] = opened.max(bin);
+                let size = self.opening.stored(size);
+                item = Some(Item {
+                    production,
+                    size,
+                    bin,
+                });
+            }
+            (Command::Shelve(_), Err(10)) if !is_spent => {
+                return Err("a master is refused with 10 though the stock is not spent");
             }
             (Command::Shelve(_), Err(8..=10)) => {}
-            (Command::Count, Ok(figure)) if figure == self.opened => {}
-            (Command::Count, Ok(_)) => return Err("a count is not of every cartridge opened"),
+            (Command::Count, Ok(figure)) if figure == opened => {}
+            (Command::Count, Ok(_)) => {
+                return Err("a count is not of every cartridge that the production opened");
+            }
             (Command::Withdraw(named), Ok(bin)) => match self.take_out(named) {
-                Some((_, its)) if its == bin => {}
+                Some(item) if item.bin == bin => {}
                 Some(_) => return Err("a master leaves another cartridge than it was answered"),
                 None => return Err("a master is taken out that is not on the shelf"),
             },
@@ -54,44 +81,54 @@ impl Told {
                     return Err("a master that is on the shelf is not taken out");
                 }
             }
+            (Command::Switch(to), Ok(byte)) if byte == to.into() => self.current = to.into(),
+            (Command::Switch(_), Ok(_)) => return Err("a switch is not answered by its byte"),
             _ => return Err("a command is answered with a refusal that is not its own"),
         }
         self.items.push(item);
         Ok(())
     }
 
-    /// The item of the command with this number, which then is out.
-    fn take_out(&mut self, number: u16) -> Option<(u64, u16)> {
+    /// The item of the command with this number, if it is of the current
+    /// production; it then is out.
+    fn take_out(&mut self, number: u16) -> Option<Item> {
         let place = usize::from(number).checked_sub(1)?;
-        self.items.get_mut(place)?.take()
+        let current = self.current;
+        let item = self.items.get_mut(place)?;
+        item.take_if(|item| item.production == current)
     }
 
-    /// The items in the order of their commands.
-    fn shelved(&self) -> impl Iterator<Item = (u64, u16)> + '_ {
-        self.items.iter().copied().flatten()
+    /// The items of a production in the order of their commands.
+    fn shelved(&self, production: usize) -> impl Iterator<Item = Item> + '_ {
+        let items = self.items.iter().copied().flatten();
+        items.filter(move |item| item.production == production)
     }
 
-    /// The load of each bin, and how many items it holds.
-    fn loads_and_held(&self) -> (Figures, Figures) {
-        let none: Figures = (1..=self.opened).map(|bin| (bin, 0)).collect();
+    /// The load of each bin of a production, and how many items it holds.
+    fn loads_and_held(&self, production: usize) -> (Figures, Figures) {
+        let bins = 1..=self.opened[production];
+        let none: Figures = bins.map(|bin| (bin, 0)).collect();
         let (mut loads, mut held) = (none.clone(), none);
-        for (size, bin) in self.shelved() {
+        for Item { size, bin, .. } in self.shelved(production) {
             loads[usize::from(bin) - 1].1 += size;
             held[usize::from(bin) - 1].1 += 1;
         }
         (loads, held)
     }
 
-    /// The plan of the items, with k the number opened.
-    fn own_plan(&self) -> PlanTrial {
-        let items: Vec<u32> = self.shelved().map(|(size, _)| entry_size(size)).collect();
+    /// The plan of a production's items, with k the number that it opened.
+    fn own_plan(&self, production: usize) -> PlanTrial {
+        let items = self.shelved(production);
+        let (items, bins): (Vec<u32>, Vec<u32>) = items
+            .map(|Item { size, bin, .. }| (entry_size(size), u32::from(bin)))
+            .unzip();
         PlanTrial {
             kind: "own plan",
             sizes: items.clone(),
-            bins: self.shelved().map(|(_, bin)| bin.into()).collect(),
+            bins,
             items,
             capacity: self.opening.capacity,
-            k: self.opened.into(),
+            k: self.opened[production].into(),
         }
     }
 }
@@ -107,21 +144,23 @@ pub fn fault(trial: &StreamTrial, outcome: &Outcome) -> Option<&'static str> {
         }
     }
     let still_shelved = Totals {
-        items: told.shelved().count(),
-        opened: told.opened.into(),
+        items: told.items.iter().flatten().count(),
+        opened: told.opened.iter().sum::<u16>().into(),
     };
     if totals != still_shelved {
         return Some("the totals are not of what is still shelved and was opened");
     }
-    let (loads, held) = told.loads_and_held();
-    if on_sheet(&outcome.sheet, 8..=15) != Some(loads) {
+    let productions = (0..PRODUCTIONS).map(|production| told.loads_and_held(production));
+    let (loads, held): (Vec<Figures>, Vec<Figures>) = productions.unzip();
+    if on_sheet(&outcome.sheet, 8..=15) != Some(loads.concat()) {
         return Some("the loads of the sheet are not of what is still shelved");
     }
-    if on_sheet(&outcome.sheet, 26..=29) != Some(held) {
+    if on_sheet(&outcome.sheet, 26..=29) != Some(held.concat()) {
         return Some("the sheet does not hold what is still shelved");
     }
-    if plan_by_library(&told.own_plan()) != Some(Ok(())) {
-        return Some("the shelf's own plan does not pass");
+    let mut plans = (0..PRODUCTIONS).map(|production| told.own_plan(production));
+    if plans.any(|plan| plan_by_library(&plan) != Some(Ok(()))) {
+        return Some("a production's own plan does not pass");
     }
     None
 }
@@ -131,7 +170,7 @@ mod tests {
     use super::*;
     use crate::cases::{case, sent};
     use crate::rows::Lent;
-    use crate::wire::Command::{Count, Shelve, Withdraw};
+    use crate::wire::Command::{Count, Shelve, Switch, Withdraw};
     use crate::wire::{opening, refused_word as r};
     use crate::written::Written;
 
@@ -189,12 +228,76 @@ mod tests {
                 r(17),
                 "a command is answered with a refusal that is not its own",
             ),
-            (5, 1, "a count is not of every cartridge opened"),
-            (5, 3, "a count is not of every cartridge opened"),
+            (
+                5,
+                1,
+                "a count is not of every cartridge that the production opened",
+            ),
+            (
+                5,
+                3,
+                "a count is not of every cartridge that the production opened",
+            ),
         ] {
             let mut words = WORDS;
             words[place] = word;
             assert_eq!(found(&words, TOTALS), Some(expected), "{place}: {word}");
+        }
+    }
+
+    #[test]
+    fn a_wrong_answer_of_either_production_is_found() {
+        let stream = |stock: u16| {
+            let commands = [
+                Shelve(35),
+                Switch(1),
+                Shelve(40),
+                Withdraw(1),
+                Count,
+                Switch(0),
+                Shelve(30),
+                Withdraw(3),
+            ];
+            sent(opening(60, stock, 6), &commands)
+        };
+        let found = |stock: u16, place: usize, word: u16| {
+            let mut words = [1, 1, 1, r(17), 1, 0, 2, r(17)];
+            words[place] = word;
+            let trial = case(stream(stock), Lent::both(words.len()));
+            let totals = Totals {
+                items: 3,
+                opened: 3,
+            };
+            let free = [25, 0, 20, 0, 0, 0, 30, 0];
+            fault(&trial, &Outcome::accepted(&trial, totals, &words, &free))
+        };
+        assert_eq!(found(3, 0, 1), None);
+        for (stock, place, word, expected) in [
+            (3, 1, 0, "a switch is not answered by its byte"),
+            (
+                3,
+                5,
+                r(17),
+                "a command is answered with a refusal that is not its own",
+            ),
+            (3, 2, 2, "a cartridge is opened out of turn"),
+            (3, 3, 1, "a master is taken out that is not on the shelf"),
+            (
+                3,
+                4,
+                2,
+                "a count is not of every cartridge that the production opened",
+            ),
+            (
+                3,
+                6,
+                r(10),
+                "a master is refused with 10 though the stock is not spent",
+            ),
+            (2, 6, 2, "a cartridge is opened though the stock is spent"),
+            (3, 7, 1, "a master is taken out that is not on the shelf"),
+        ] {
+            assert_eq!(found(stock, place, word), Some(expected), "{place}: {word}");
         }
     }
 
@@ -239,13 +342,25 @@ mod tests {
         for (command, word) in COMMANDS.into_iter().zip(WORDS) {
             told.take_in(command, word).expect("a right answer");
         }
-        let plan = told.own_plan();
+        let plan = told.own_plan(0);
         assert_eq!((plan.entries(), plan.k), (vec![(22, 1), (35, 2)], 2));
         told.take_in(Withdraw(2), 1).expect("a right answer");
-        let plan = told.own_plan();
+        let plan = told.own_plan(0);
         assert_eq!((plan.entries(), plan.k), (vec![(35, 2)], 2));
         let fewer = PlanTrial { k: 1, ..plan };
         assert!(plan_by_library(&fewer).is_some_and(|verdict| verdict.is_err()));
+    }
+
+    #[test]
+    fn each_production_has_a_plan_of_its_own() {
+        let mut told = Told::new(OPEN);
+        let commands = [Shelve(35), Switch(1), Shelve(40), Shelve(22), Withdraw(3)];
+        for (command, word) in commands.into_iter().zip([1, 1, 1, 2, 1]) {
+            told.take_in(command, word).expect("a right answer");
+        }
+        let plans = [0, 1].map(|production| told.own_plan(production));
+        let plans = plans.map(|plan| (plan.entries(), plan.k));
+        assert_eq!(plans, [(vec![(35, 1)], 1), (vec![(22, 2)], 2)]);
     }
 
     #[test]
@@ -257,7 +372,7 @@ mod tests {
         for (command, word) in commands.into_iter().zip(words) {
             told.take_in(command, word).expect("a right answer");
         }
-        assert_eq!(told.own_plan().entries(), [(22, 1), (35, 2)]);
+        assert_eq!(told.own_plan(0).entries(), [(22, 1), (35, 2)]);
 
         let trial = case(sent(opening, &commands), Lent::both(4));
         let mut outcome = Outcome::accepted(&trial, TOTALS, &words, &FREE[..4]);
@@ -273,8 +388,8 @@ mod tests {
 
         // What no entry of a plan can say is in no plan that passes.
         told.take_in(Shelve(u32::MAX), 3).expect("a number in turn");
-        assert_eq!(told.own_plan().entries()[2], (u32::MAX, 3));
-        assert!(plan_by_library(&told.own_plan()).is_some_and(|verdict| verdict.is_err()));
+        assert_eq!(told.own_plan(0).entries()[2], (u32::MAX, 3));
+        assert!(plan_by_library(&told.own_plan(0)).is_some_and(|verdict| verdict.is_err()));
     }
 
     #[test]
@@ -289,7 +404,7 @@ mod tests {
             "   2 1       70        0    2           \n",
         ];
         outcome.sheet = Written::text(trial.fill, &lines.concat());
-        let expected = Some("the shelf's own plan does not pass");
+        let expected = Some("a production's own plan does not pass");
         assert_eq!(fault(&trial, &outcome), expected);
     }
 }

@@ -4,13 +4,13 @@
 use crate::cases::{sent, Case, Cases};
 use crate::lists::most_trailer;
 use crate::sheet_cases::sheet;
-use crate::wire::Command::{self, Count, Shelve, Withdraw};
+use crate::wire::Command::{self, Count, Shelve, Switch, Withdraw};
 use crate::wire::{opening, refused_word as r, Opening, MOST_CAPACITY, MOST_COMMANDS};
 use crate::withdrawal_cases;
 
 const OPEN: Opening = opening(60, 512, 6);
 
-const CASES: [Case; 9] = [
+pub const CASES: [Case; 9] = [
     Case {
         name: "a class goes by the stored size",
         opening: OPEN.with_trailer(1),
@@ -194,7 +194,7 @@ fn with_a_trailer(case: &Case) -> Vec<u8> {
         .iter()
         .filter_map(|command| match command {
             Shelve(size) => Some(*size),
-            Count | Withdraw(_) => None,
+            Count | Withdraw(_) | Switch(_) => None,
         })
         .collect();
     let opening = case.opening.with_trailer(most_trailer(&sizes));
@@ -212,7 +212,7 @@ fn with_a_trailer(case: &Case) -> Vec<u8> {
 fn trailers_of_two_bytes(cases: &mut Cases) {
     for trailer in [
         0x0000, 0x0003, 0x0100, 0x0101, 0x0102, 0x0201, 0x0202, 0x0300, 0x0303, 0x0400, 0x0404,
-        0x0606, 0x1101, 0x1111, 0xFF00, 0xFFFF,
+        0x0500, 0x0501, 0x0606, 0x1101, 0x1111, 0xFF00, 0xFFFF,
     ] {
         let size = 100_000 - u32::from(trailer);
         let commands = [Shelve(size), Shelve(size + 1), Count, Shelve(size - 1)];

@@ -70,7 +70,7 @@ impl Sent {
 }
 
 /// The refusals of streams by 11.
-const NUMBERS: [u32; 6] = [2, 3, 4, 5, 6, 7];
+const NUMBERS: [u32; 7] = [2, 3, 4, 5, 6, 7, 18];
 
 /// How often something was met.
 #[derive(Default)]
@@ -155,13 +155,13 @@ mod tests {
     use super::*;
     use crate::compare::by_paper;
     use crate::rng::Rng;
-    use crate::{streams, withdrawals};
+    use crate::{productions, streams, withdrawals};
 
     #[test]
     fn all_is_met_in_a_short_run() {
         let mut met = Trailers::default();
         for index in 0..1000 {
-            for random in [streams::random, withdrawals::random] {
+            for random in [streams::random, withdrawals::random, productions::random] {
                 let trial = random(&mut Rng::of_trial(1, index));
                 met.add(&trial.stream, &by_paper(&trial));
             }

@@ -15,8 +15,11 @@ use crate::wire::MOST_PRINTED;
 pub fn fault(shelved: &Shelved) -> Option<&'static str> {
     let packing = &shelved.packing;
     let stock = usize::from(packing.opening.stock);
-    let last = (shelved.walk, packing.bins.len());
-    let mut walks = packing.counts.iter().copied().chain([last]);
+    let productions = packing.productions.iter().zip(shelved.walks);
+    let mut walks = productions.flat_map(|(production, last)| {
+        let last = (last, production.bins.len());
+        production.counts.iter().copied().chain([last])
+    });
     walks.find_map(|(walk, bins)| {
         if walk.figure != bins {
             Some("the paper's walk does not count the cartridges")
@@ -28,18 +31,19 @@ pub fn fault(shelved: &Shelved) -> Option<&'static str> {
     })
 }
 
-/// What the program has to print of a stream: the walk after the last command.
+/// What the program has to print of a stream: each production's walk after the
+/// last command.
 pub fn by_paper(stream: &[u8]) -> String {
     match paper::shelve(stream) {
         Ok(shelved) if stream.len() <= MOST_PRINTED => {
-            let Walk { figure, places } = shelved.walk;
-            format!("{figure} {places}\n")
+            let line = |Walk { figure, places }| format!("{figure} {places}\n");
+            shelved.walks.map(line).concat()
         }
         _ => String::new(),
     }
 }
 
-/// The program that shelves a stream and prints the walk after it.
+/// The program that shelves a stream and prints the walks after it.
 pub struct Program(pub PathBuf);
 
 impl Program {
@@ -57,7 +61,7 @@ impl Program {
         Ok(String::from_utf8_lossy(&output.stdout).into_owned())
     }
 
-    /// Whether it prints another walk than the paper's.
+    /// Whether it prints other walks than the paper's.
     pub fn differs(&self, stream: &[u8]) -> Result<bool, String> {
         Ok(self.prints(stream)? != by_paper(stream))
     }
@@ -112,6 +116,7 @@ impl fmt::Display for Found {
 mod tests {
     use super::*;
     use crate::cases::sample;
+    use crate::wire::PRODUCTIONS;
 
     fn sample_shelved() -> Shelved {
         paper::shelve(&sample()).expect("a stream without a fault")
@@ -121,15 +126,17 @@ mod tests {
     fn a_wrong_walk_is_found() {
         let right = sample_shelved();
         assert_eq!(fault(&right), None);
-        let Walk { figure, places } = right.walk;
-        assert_eq!((figure, places), (4, 4));
+        let walks = right.walks.map(|Walk { figure, places }| (figure, places));
+        assert_eq!(walks, [(4, 4), (0, 1)]);
         for (figure, places) in [(4, 5), (4, 3), (3, 4), (5, 4), (3, 3)] {
             let wrong = Walk { figure, places };
+            for production in 0..PRODUCTIONS {
+                let mut shelved = sample_shelved();
+                shelved.walks[production] = wrong;
+                assert!(fault(&shelved).is_some(), "after the last: {wrong:?}");
+            }
             let mut shelved = sample_shelved();
-            shelved.walk = wrong;
-            assert!(fault(&shelved).is_some(), "after the last: {wrong:?}");
-            let mut shelved = sample_shelved();
-            shelved.packing.counts[0].0 = wrong;
+            shelved.packing.productions[0].counts[0].0 = wrong;
             assert!(fault(&shelved).is_some(), "at the count: {wrong:?}");
         }
     }
@@ -143,7 +150,7 @@ mod tests {
 
     #[test]
     fn what_is_printed_is_compared() {
-        assert_eq!(by_paper(&sample()), "4 4\n");
+        assert_eq!(by_paper(&sample()), "4 4\n0 1\n");
         // It prints nothing, and reads nothing of a stream that fills its pipe.
         let silent = Program("true".into());
         assert_eq!(silent.differs(&sample()), Ok(true));

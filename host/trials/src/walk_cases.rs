@@ -1,12 +1,13 @@
 //! The count's cases by name, their figures and places written out from the
-//! request: the words of the counts, and the walk after the last command.
+//! request: the words of the counts, and each production's walk after the last
+//! command.
 
 use crate::cases::{case, sample, sent, Cases};
 use crate::compare::{by_paper, Outcome};
 use crate::paper;
 use crate::rows::Lent;
 use crate::walk::{self, Program};
-use crate::wire::Command::{self, Count, Shelve, Withdraw};
+use crate::wire::Command::{self, Count, Shelve, Switch, Withdraw};
 use crate::wire::{opening, Opening, Stream, MOST_COMMANDS, MOST_PRINTED};
 
 const OPEN: Opening = opening(60, 512, 6);
@@ -39,7 +40,7 @@ fn mixed_classes(place: usize) -> &'static [u32] {
 /// cannot be run.
 pub fn run(cases: &mut Cases, program: Option<&Program>) -> Result<(), String> {
     let mut walks = Walks { cases, program };
-    walks.walked("the walk after the sample", &sample(), &[4], "4 4\n")?;
+    walks.walked("the walk after the sample", &sample(), &[4], "4 4\n0 1\n")?;
     walks.trailers()?;
     for stock in [1, 2, 3, 50, 511, 512] {
         walks.none_opened(stock)?;
@@ -47,6 +48,7 @@ pub fn run(cases: &mut Cases, program: Option<&Program>) -> Result<(), String> {
             walks.shelves(stock, shelf, sizes)?;
         }
     }
+    walks.two_productions()?;
     walks.longest_streams()?;
     walks.refused_streams()
 }
@@ -101,7 +103,7 @@ impl Walks<'_> {
             ("every master refused", &refused, &[0, 0]),
         ] {
             let name = format!("stock {stock}, {what}");
-            self.walked(&name, &sent(opening, commands), figures, "0 1\n")?;
+            self.walked(&name, &sent(opening, commands), figures, "0 1\n0 1\n")?;
         }
         Ok(())
     }
@@ -125,7 +127,7 @@ impl Walks<'_> {
             }
             let opening = opening(60, stock, 6);
             let name = format!("stock {stock}, {opened} opened, {shelf}");
-            let printed = format!("{opened} {places}\n");
+            let printed = format!("{opened} {places}\n0 1\n");
             self.walked(&name, &sent(opening, &commands), &figures, &printed)?;
             // Emptied cartridges are counted like any other.
             let mut emptied = commands.clone();
@@ -151,12 +153,12 @@ impl Walks<'_> {
     fn trailers(&mut self) -> Result<(), String> {
         let commands = [Shelve(20), Count, Shelve(20), Count, Shelve(20), Count];
         for (trailer, figures, printed) in [
-            (None, [1, 1, 1], "1 2\n"),
-            (Some(0), [1, 1, 1], "1 2\n"),
-            (Some(1), [1, 1, 2], "2 3\n"),
-            (Some(20), [1, 2, 3], "3 3\n"),
-            (Some(41), [0, 0, 0], "0 1\n"),
-            (Some(u16::MAX), [0, 0, 0], "0 1\n"),
+            (None, [1, 1, 1], "1 2\n0 1\n"),
+            (Some(0), [1, 1, 1], "1 2\n0 1\n"),
+            (Some(1), [1, 1, 2], "2 3\n0 1\n"),
+            (Some(20), [1, 2, 3], "3 3\n0 1\n"),
+            (Some(41), [0, 0, 0], "0 1\n0 1\n"),
+            (Some(u16::MAX), [0, 0, 0], "0 1\n0 1\n"),
         ] {
             let opening = Opening {
                 trailer,
@@ -168,16 +170,45 @@ impl Walks<'_> {
         Ok(())
     }
 
+    /// So many opened of the second production and then of the first. The walk of
+    /// either goes over the whole stock.
+    fn two_productions(&mut self) -> Result<(), String> {
+        for (stock, first, second, printed) in [
+            (1, 0, 1, "0 1\n1 1\n"),
+            (2, 1, 1, "1 2\n1 2\n"),
+            (3, 1, 2, "1 2\n2 3\n"),
+            (3, 0, 3, "0 1\n3 3\n"),
+            (8, 3, 4, "3 4\n4 5\n"),
+            (512, 200, 312, "200 201\n312 313\n"),
+            (512, 511, 1, "511 512\n1 2\n"),
+            (512, 0, 512, "0 1\n512 512\n"),
+        ] {
+            let full = |bins: u16| vec![Shelve(60); bins.into()];
+            let commands = [
+                vec![Switch(1)],
+                full(second),
+                vec![Count, Switch(0), Count],
+                full(first),
+                vec![Count, Switch(1), Count],
+            ];
+            let stream = sent(opening(60, stock, 6), &commands.concat());
+            let figures = [second, 0, first, second];
+            let name = format!("stock {stock}, {first} and {second} opened");
+            self.walked(&name, &stream, &figures, printed)?;
+        }
+        Ok(())
+    }
+
     fn longest_streams(&mut self) -> Result<(), String> {
         let name = "4,096 counts and none opened";
         let counts = sent(OPEN, &[Count; MOST_COMMANDS]);
-        self.walked(name, &counts, &[0; MOST_COMMANDS], "0 1\n")?;
+        self.walked(name, &counts, &[0; MOST_COMMANDS], "0 1\n0 1\n")?;
         let name = "4,096 masters over a stock of 512";
         let spent = sent(OPEN, &[Shelve(60); MOST_COMMANDS]);
-        self.walked(name, &spent, &[], "512 512\n")?;
+        self.walked(name, &spent, &[], "512 512\n0 1\n")?;
         let name = "4,096 masters in one cartridge of 512";
         let one = sent(opening(4096, 512, 9), &[Shelve(1); MOST_COMMANDS]);
-        self.walked(name, &one, &[], "1 2\n")
+        self.walked(name, &one, &[], "1 2\n0 1\n")
     }
 
     fn refused_streams(&mut self) -> Result<(), String> {
@@ -186,6 +217,8 @@ impl Walks<'_> {
             vec![],
             [&shelved[..], &[0x04]].concat(),
             [&shelved[..], &[0x05]].concat(),
+            [&shelved[..], &[0x05, 0x02]].concat(),
+            [&shelved[..], &[0x08]].concat(),
             shelved[..12].to_vec(),
             [&shelved[..], &shelved].concat(),
             [&shelved[..], &[0x11]].concat(),

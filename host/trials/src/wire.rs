@@ -7,6 +7,7 @@ pub const OPEN_WITH_TRAILER: u8 = 0x11;
 const SHELVE: u8 = 0x02;
 const COUNT: u8 = 0x03;
 const WITHDRAW: u8 = 0x04;
+const SWITCH: u8 = 0x05;
 
 /// The largest capacity; the least is 1.
 pub const MOST_CAPACITY: u32 = 16_777_216;
@@ -18,6 +19,8 @@ pub const LEAST_M: u8 = 6;
 pub const MOST_M: u8 = 9;
 /// The most commands after the opening.
 pub const MOST_COMMANDS: usize = 4096;
+/// The productions that draw on a stock.
+pub const PRODUCTIONS: usize = 2;
 /// The most bytes of a stream that is printed, as answers or as a sheet.
 pub const MOST_PRINTED: usize = 32_768;
 
@@ -109,6 +112,8 @@ pub enum Command {
     Count,
     /// Takes out what the command of this number shelved.
     Withdraw(u16),
+    /// Makes the commands after it belong to this production.
+    Switch(u8),
 }
 
 impl Command {
@@ -117,6 +122,7 @@ impl Command {
             Self::Shelve(size) => [&[SHELVE][..], &size.to_be_bytes()].concat(),
             Self::Count => vec![COUNT],
             Self::Withdraw(number) => [&[WITHDRAW][..], &number.to_be_bytes()].concat(),
+            Self::Switch(production) => vec![SWITCH, *production],
         }
     }
 }
@@ -159,20 +165,32 @@ impl Stream {
         let place = usize::from(number).checked_sub(1)?;
         match self.commands.get(place)? {
             Command::Shelve(size) => Some(self.opening.stored(*size)),
-            Command::Count | Command::Withdraw(_) => None,
+            Command::Count | Command::Withdraw(_) | Command::Switch(_) => None,
         }
     }
 
-    /// The accepted items by these answers, whether or not they were taken out
-    /// later, as a plan has them: each with its bin.
-    pub fn placed(&self, answers: &[u16]) -> Vec<(u32, u32)> {
-        let answered = self.commands.iter().zip(answers);
-        let placed = answered.filter_map(|(command, &word)| match *command {
-            Command::Shelve(size) => {
-                let bin = answer(word).ok()?.into();
-                Some((entry_size(self.opening.stored(size)), bin))
+    /// The production that each command belongs to; a switch to that before it.
+    pub fn productions(&self) -> impl Iterator<Item = usize> + '_ {
+        self.commands.iter().scan(0, |current, command| {
+            let production = *current;
+            if let Command::Switch(next) = *command {
+                *current = next.into();
             }
-            Command::Count | Command::Withdraw(_) => None,
+            Some(production)
+        })
+    }
+
+    /// The accepted items of a production by these answers, up to the first that
+    /// it took out, as a plan has them: each with its bin.
+    pub fn placed(&self, answers: &[u16], production: usize) -> Vec<(u32, u32)> {
+        let answered = self.commands.iter().zip(answers).zip(self.productions());
+        let own = answered.filter(|&(_, its)| its == production);
+        let accepted = own.filter_map(|((&command, &word), _)| Some((command, answer(word).ok()?)));
+        let to_withdrawal =
+            accepted.take_while(|(command, _)| !matches!(command, Command::Withdraw(_)));
+        let placed = to_withdrawal.filter_map(|(command, bin)| match command {
+            Command::Shelve(size) => Some((entry_size(self.opening.stored(size)), bin.into())),
+            _ => None,
         });
         placed.collect()
     }
@@ -192,6 +210,11 @@ impl Stream {
                 return refuse(6, offset);
             }
             match part {
+                Part::Command(Command::Switch(production))
+                    if usize::from(production) >= PRODUCTIONS =>
+                {
+                    return refuse(18, offset)
+                }
                 Part::Command(command) => commands.push(command),
                 Part::Unknown(_) => return refuse(2, offset),
                 Part::Opening(_) | Part::CutShort([OPEN | OPEN_WITH_TRAILER, ..]) => {
@@ -257,7 +280,8 @@ fn first_part(bytes: &[u8]) -> Option<(Part<'_>, &[u8])> {
             let number = u16::from_be_bytes([a, b]);
             (Part::Command(Command::Withdraw(number)), rest)
         }
-        [OPEN | OPEN_WITH_TRAILER | SHELVE | WITHDRAW, ..] => (Part::CutShort(bytes), &[]),
+        [SWITCH, production, ref rest @ ..] => (Part::Command(Command::Switch(production)), rest),
+        [OPEN | OPEN_WITH_TRAILER | SHELVE | WITHDRAW | SWITCH, ..] => (Part::CutShort(bytes), &[]),
         [byte, ref rest @ ..] => (Part::Unknown(byte), rest),
     })
 }
@@ -297,7 +321,8 @@ pub fn by_other_opening(stream: &[u8]) -> Option<Vec<u8>> {
     Some(bytes)
 }
 
-/// An answer word: the bin or the count, or else the refusal's number.
+/// An answer word: the bin, the count or the production, or else the refusal's
+/// number.
 pub fn answer(word: u16) -> Result<u16, u16> {
     if word < REFUSED {
         Ok(word)
@@ -316,18 +341,26 @@ mod tests {
     use super::*;
 
     /// The paper's sample with its first master and its count, in the paper's
-    /// bytes, and then the request's that takes the master out.
-    const SAMPLE: [u8; 17] = [1, 0, 0, 0, 0x3C, 0, 4, 6, 2, 0, 0, 0, 0x23, 3, 4, 0, 1];
+    /// bytes, and then the requests' that take the master out and switch to the
+    /// other production.
+    const SAMPLE: [u8; 19] = [
+        1, 0, 0, 0, 0x3C, 0, 4, 6, 2, 0, 0, 0, 0x23, 3, 4, 0, 1, 5, 1,
+    ];
 
     /// The same opened by the other command, with a trailer of 1,029.
-    const TRAILED: [u8; 19] = [
-        0x11, 0, 0, 0, 0x3C, 0, 4, 6, 4, 5, 2, 0, 0, 0, 0x23, 3, 4, 0, 1,
+    const TRAILED: [u8; 21] = [
+        0x11, 0, 0, 0, 0x3C, 0, 4, 6, 4, 5, 2, 0, 0, 0, 0x23, 3, 4, 0, 1, 5, 1,
     ];
 
     fn read_and_written(bytes: &[u8], opening: Opening) {
         let stream = Stream {
             opening,
-            commands: vec![Command::Shelve(35), Command::Count, Command::Withdraw(1)],
+            commands: vec![
+                Command::Shelve(35),
+                Command::Count,
+                Command::Withdraw(1),
+                Command::Switch(1),
+            ],
         };
         assert_eq!(stream.bytes(), bytes);
         assert_eq!(Stream::read(bytes), Ok(stream));
@@ -338,6 +371,7 @@ mod tests {
                 None => Some((3, 0)),
                 Some(1..=4) => Some((3, len)),
                 Some(7..=8) => Some((3, len + 6)),
+                Some(10) => Some((3, len + 9)),
                 Some(_) => None,
             };
             let refusal = Stream::read(&bytes[..cut]).err();
@@ -362,11 +396,46 @@ mod tests {
                 }
             }
         }
-        for first in [0, 2, 3, 4, 0x0B, 0x10, 0x12, 0xFF] {
+        for first in [0, 2, 3, 4, 5, 0x0B, 0x10, 0x12, 0xFF] {
             let mut stream = TRAILED;
             stream[0] = first;
             assert_eq!(Stream::read(&stream), refuse(1, 0));
         }
+    }
+
+    #[test]
+    fn there_are_two_productions() {
+        for production in 0..=u8::MAX {
+            let stream = [&SAMPLE[..], &[5, production, 3]].concat();
+            let refusal = Stream::read(&stream).err();
+            let above = Refusal { number: 18, at: 19 };
+            assert_eq!(refusal, (production > 1).then_some(above));
+        }
+    }
+
+    #[test]
+    fn a_command_belongs_to_the_production_switched_to() {
+        use Command::{Shelve, Switch, Withdraw};
+        let stream = Stream {
+            opening: opening(60, 4, 6),
+            commands: vec![
+                Shelve(35),
+                Switch(1),
+                Shelve(22),
+                Switch(1),
+                Withdraw(1),
+                Shelve(23),
+                Switch(0),
+                Shelve(36),
+                Withdraw(1),
+                Shelve(37),
+            ],
+        };
+        let productions: Vec<usize> = stream.productions().collect();
+        assert_eq!(productions, [0, 0, 1, 1, 1, 1, 1, 0, 0, 0]);
+        let words = [1, 1, 1, 1, refused_word(17), 1, 0, 2, 1, 1];
+        assert_eq!(stream.placed(&words, 0), [(35, 1), (36, 2)]);
+        assert_eq!(stream.placed(&words, 1), [(22, 1), (23, 1)]);
     }
 
     #[test]
@@ -434,7 +503,7 @@ mod tests {
 
     #[test]
     fn a_stream_is_its_parts_faulty_or_not() {
-        let second = [2, 1, 9, 3, 1, 0];
+        let second = [2, 1, 9, 3, 5, 7, 1, 0];
         for cut in 0..=TRAILED.len() {
             let bytes = [&TRAILED[..cut], &second].concat();
             let mut offset = 0;
