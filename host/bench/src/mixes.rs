@@ -1,6 +1,6 @@
 //! The streams to time: 4,096 commands each over a stock of 512.
 
-use shelf::{StreamBuilder, MAX_COMMANDS, MAX_STOCK};
+use shelf::{Production, StreamBuilder, MAX_COMMANDS, MAX_STOCK};
 
 use crate::scan::Scan;
 
@@ -28,9 +28,12 @@ enum Besides {
     Withdrawals,
     /// Once the stock is spent, an item is taken out before every item.
     Refills,
+    /// A switch to the other production after so many items, from the least to
+    /// the most.
+    Switches(u32, u32),
 }
 
-pub const MIXES: [Mix; 11] = [
+pub const MIXES: [Mix; 13] = [
     // Any size; the stock is soon spent, and most are refused.
     Mix {
         name: "uniform",
@@ -40,12 +43,7 @@ pub const MIXES: [Mix; 11] = [
     // Every class, and the stock suffices.
     Mix {
         name: "all-fit",
-        size: |numbers| match numbers.between(1, 100) {
-            1..=3 => numbers.between(CAPACITY / 2 + 1, CAPACITY),
-            4..=7 => numbers.between(CAPACITY / 5 * 2 + 1, CAPACITY / 2),
-            8..=11 => numbers.between(CAPACITY / 3 + 1, CAPACITY / 5 * 2),
-            _ => numbers.between(1, CAPACITY / 12),
-        },
+        size: of_every_class,
         besides: Besides::Nothing,
     },
     Mix {
@@ -104,7 +102,29 @@ pub const MIXES: [Mix; 11] = [
         size: |numbers| numbers.between(1, CAPACITY - u32::from(TRAILER)),
         besides: Besides::Trailer,
     },
+    // Every class, in either production, and the stock suffices for both.
+    Mix {
+        name: "productions",
+        size: of_every_class,
+        besides: Besides::Switches(3, 5),
+    },
+    // The same, with every second command a switch.
+    Mix {
+        name: "alternating",
+        size: of_every_class,
+        besides: Besides::Switches(1, 1),
+    },
 ];
+
+/// A size of any class, mostly X.
+fn of_every_class(numbers: &mut Numbers) -> u32 {
+    match numbers.between(1, 100) {
+        1..=3 => numbers.between(CAPACITY / 2 + 1, CAPACITY),
+        4..=7 => numbers.between(CAPACITY / 5 * 2 + 1, CAPACITY / 2),
+        8..=11 => numbers.between(CAPACITY / 3 + 1, CAPACITY / 5 * 2),
+        _ => numbers.between(1, CAPACITY / 12),
+    }
+}
 
 impl Mix {
     /// The stream of this number, the same in every run.
@@ -116,14 +136,16 @@ impl Mix {
         };
         while making.stream.commands() < MAX_COMMANDS {
             let withdraws = match self.besides {
-                Besides::Nothing | Besides::Trailer | Besides::Counts => false,
                 Besides::Withdrawals => numbers.between(1, 3) == 1,
                 Besides::Refills => making.shelved.len() == MAX_STOCK.into(),
+                _ => false,
             };
-            if withdraws {
-                making.withdraw(&mut numbers);
-            } else {
-                making.shelve((self.size)(&mut numbers));
+            match self.besides {
+                _ if withdraws => making.withdraw(&mut numbers),
+                Besides::Switches(least, most) if making.to_switch == 0 => {
+                    making.switch(numbers.between(least, most));
+                }
+                _ => making.shelve((self.size)(&mut numbers)),
             }
             if let Besides::Counts = self.besides {
                 making.count();
@@ -140,6 +162,10 @@ struct Making {
     /// The numbers of the items on the shelf, and of those taken out.
     shelved: Vec<u16>,
     gone: Vec<u16>,
+    /// The production that the commands belong to, and the items up to the next
+    /// switch, where there are any.
+    production: Production,
+    to_switch: u32,
 }
 
 impl Making {
@@ -149,6 +175,8 @@ impl Making {
             shelf: Scan::open(CAPACITY, MAX_STOCK, M, 0),
             shelved: Vec::new(),
             gone: Vec::new(),
+            production: Production::First,
+            to_switch: 1,
         }
     }
 
@@ -166,6 +194,7 @@ impl Making {
         if word < 0x8000 {
             self.shelved.push(self.stream.commands() as u16);
         }
+        self.to_switch = self.to_switch.saturating_sub(1);
     }
 
     fn count(&mut self) {
@@ -188,6 +217,17 @@ impl Making {
         };
         self.stream.withdraw(number);
         self.shelf.withdraw(number);
+    }
+
+    /// Switches to the other production, for so many items.
+    fn switch(&mut self, items: u32) {
+        self.production = match self.production {
+            Production::First => Production::Second,
+            Production::Second => Production::First,
+        };
+        self.stream.switch(self.production);
+        self.shelf.switch(self.production.number());
+        self.to_switch = items;
     }
 }
 

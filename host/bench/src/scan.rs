@@ -8,17 +8,42 @@ struct Bin {
     free: u32,
 }
 
+/// What one production has.
+#[derive(Default)]
+struct Store {
+    bins: Vec<Bin>,
+    b2_accepted: u32,
+}
+
+impl Store {
+    fn for_bins(bins: u16) -> Self {
+        Self {
+            bins: Vec::with_capacity(bins.into()),
+            b2_accepted: 0,
+        }
+    }
+}
+
+/// Where an item lies, and its stored size.
+struct Item {
+    production: usize,
+    place: usize,
+    size: u32,
+}
+
 /// A shelf that answers one command after another, by both words.
 pub struct Scan {
     capacity: u32,
-    stock: usize,
+    /// The bins that neither production has opened.
+    unopened: usize,
     m: u32,
     trailer: u64,
-    bins: Vec<Bin>,
-    /// The place and the stored size of each command's item, while it is shelved.
-    items: Vec<Option<(usize, u32)>>,
+    /// The production that the commands belong to, and what each has.
+    production: usize,
+    stores: [Store; 2],
+    /// Each command's item, while it is shelved.
+    items: Vec<Option<Item>>,
     shelved: u64,
-    b2_accepted: u32,
 }
 
 const fn refused(number: u16) -> (u16, u32) {
@@ -29,13 +54,13 @@ impl Scan {
     pub fn open(capacity: u32, stock: u16, m: u8, trailer: u16) -> Self {
         Self {
             capacity,
-            stock: stock.into(),
+            unopened: stock.into(),
             m: m.into(),
             trailer: trailer.into(),
-            bins: Vec::with_capacity(stock.into()),
+            production: 0,
+            stores: [Store::for_bins(stock), Store::default()],
             items: Vec::new(),
             shelved: 0,
-            b2_accepted: 0,
         }
     }
 
@@ -51,9 +76,11 @@ impl Scan {
             return refused(9);
         }
         let size = stored as u32;
+        let production = self.production;
+        let Store { bins, b2_accepted } = &mut self.stores[production];
         let is_a = 2 * size > capacity;
         let is_b2 = 3 * size > capacity && 5 * size <= 2 * capacity;
-        let beside_an_a = is_b2 && (self.b2_accepted + 1).is_multiple_of(self.m);
+        let beside_an_a = is_b2 && (*b2_accepted + 1).is_multiple_of(self.m);
         let class = if is_a || beside_an_a {
             1
         } else if 5 * size > 2 * capacity {
@@ -65,45 +92,62 @@ impl Scan {
         };
         let fits =
             |bin: &Bin| bin.class == class && bin.free >= size && (!beside_an_a || bin.held_a > 0);
-        let place = match self.bins.iter().position(fits) {
+        let place = match bins.iter().position(fits) {
             Some(place) => place,
-            None if self.bins.len() == self.stock => return refused(10),
+            None if self.unopened == 0 => return refused(10),
             None => {
-                self.bins.push(Bin {
+                self.unopened -= 1;
+                bins.push(Bin {
                     class,
                     held_a: 0,
                     free: capacity,
                 });
-                self.bins.len() - 1
+                bins.len() - 1
             }
         };
-        let bin = &mut self.bins[place];
+        let bin = &mut bins[place];
         bin.free -= size;
         bin.held_a += u32::from(is_a);
-        self.b2_accepted += u32::from(is_b2);
+        *b2_accepted += u32::from(is_b2);
         self.shelved += 1;
         let last = self.items.len() - 1;
-        self.items[last] = Some((place, size));
+        self.items[last] = Some(Item {
+            production,
+            place,
+            size,
+        });
         (place as u16 + 1, bin.free)
     }
 
     /// A number that is kept: what a walk costs shows beside it.
     pub fn count(&mut self) -> (u16, u32) {
         self.items.push(None);
-        (self.bins.len() as u16, 0)
+        (self.stores[self.production].bins.len() as u16, 0)
     }
 
     pub fn withdraw(&mut self, number: u16) -> (u16, u32) {
         self.items.push(None);
         let named = usize::from(number).wrapping_sub(1);
-        let Some((place, size)) = self.items.get_mut(named).and_then(Option::take) else {
+        let own = |item: &mut Item| item.production == self.production;
+        let named = self.items.get_mut(named);
+        let Some(Item { place, size, .. }) = named.and_then(|item| item.take_if(own)) else {
             return refused(17);
         };
-        let bin = &mut self.bins[place];
+        let bin = &mut self.stores[self.production].bins[place];
         bin.free += size;
         bin.held_a -= u32::from(2 * size > self.capacity);
         self.shelved -= 1;
         (place as u16 + 1, bin.free)
+    }
+
+    pub fn switch(&mut self, production: u8) -> (u16, u32) {
+        self.items.push(None);
+        self.production = production.into();
+        (production.into(), 0)
+    }
+
+    fn opened(&self) -> usize {
+        self.stores.iter().map(|store| store.bins.len()).sum()
     }
 }
 
@@ -125,6 +169,10 @@ pub fn shelve(stream: &[u8], answers: &mut [u16], free: &mut [u32]) -> u64 {
                 rest = after;
                 scan.withdraw(u16::from_be_bytes([a, b]))
             }
+            [0x05, production, ref after @ ..] => {
+                rest = after;
+                scan.switch(production)
+            }
             [_, ref after @ ..] => {
                 rest = after;
                 scan.count()
@@ -132,5 +180,5 @@ pub fn shelve(stream: &[u8], answers: &mut [u16], free: &mut [u32]) -> u64 {
             [] => break,
         };
     }
-    scan.shelved << 16 | scan.bins.len() as u64
+    scan.shelved << 16 | scan.opened() as u64
 }

@@ -1,9 +1,18 @@
 //! The same algorithm by hand: tournament trees in safe Rust; beside them a row
-//! of figures for each bin, as a vault sheet needs them and a count walks, and
-//! the bin and the stored size of each command's item, for a withdrawal to find
-//! them.
+//! of figures for each bin, as a vault sheet needs them and a count walks, and a
+//! list of the bin and the stored size of each command's item, for a withdrawal
+//! to find them. Each production has its own.
 
 use std::hint::black_box;
+use std::mem::replace;
+
+/// What one production has.
+struct Store {
+    trees: Trees,
+    rows: Rows,
+    items: Items,
+    counts: Counts,
+}
 
 /// Five trees of up to 512 leaves, the root at 1 and the leaves from `leaves`
 /// up. Trees 1 to 4 hold the free space of the bins of a class, tree 0 that of
@@ -16,12 +25,33 @@ type Tree = [u32; 2 * MAX_LEAVES];
 type Rows = [[u32; 4]; MAX_LEAVES];
 
 /// The place and the stored size of each command's item; size 0 where there is
-/// none, or none any more.
+/// none of this production, or none any more.
 type Items = [(u32, u32); MAX_COMMANDS];
 
 const MAX_LEAVES: usize = 512;
 const MAX_COMMANDS: usize = 4096;
 const WITH_A: usize = 0;
+
+impl Store {
+    const EMPTY: Self = Self {
+        trees: [[0; 2 * MAX_LEAVES]; 5],
+        rows: [[0; 4]; MAX_LEAVES],
+        items: [(0, 0); MAX_COMMANDS],
+        counts: Counts {
+            opened: 0,
+            b2_since_m: 0,
+            shelved: 0,
+        },
+    };
+}
+
+#[derive(Clone, Copy)]
+struct Counts {
+    opened: usize,
+    /// B2 items since the last m-th.
+    b2_since_m: u32,
+    shelved: u64,
+}
 
 /// The first leaf with space for this size; the root must have it.
 // Not inlined: the loop then has all the registers.
@@ -107,14 +137,10 @@ fn show_class_1(trees: &mut Trees, leaf: usize, free: u32, held_a: u32) {
 /// Takes out the item of a command: its place, and the free space then.
 // Not inlined: the loop over the commands then keeps its registers.
 #[inline(never)]
-fn take_out(
-    items: &mut Items,
-    rows: &mut Rows,
-    trees: &mut Trees,
-    leaves: usize,
-    capacity: u32,
-    number: u16,
-) -> Option<(u32, u32)> {
+fn take_out(own: &mut Store, leaves: usize, capacity: u32, number: u16) -> Option<(u32, u32)> {
+    let Store {
+        trees, rows, items, ..
+    } = own;
     let named = items.get_mut(usize::from(number).wrapping_sub(1))?;
     let (place, size @ 1..) = *named else {
         return None;
@@ -189,10 +215,14 @@ fn read(stream: &[u8]) -> Result<(Opening, usize), u64> {
             0x02 => 5,
             0x03 => 1,
             0x04 => 3,
+            0x05 => 2,
             _ => return Err(refused(2, offset)),
         };
         if stream.len() - offset < len {
             return Err(refused(3, offset));
+        }
+        if byte == 0x05 && stream[offset + 1] > 1 {
+            return Err(refused(18, offset));
         }
         offset += len;
         commands += 1;
@@ -201,19 +231,22 @@ fn read(stream: &[u8]) -> Result<(Opening, usize), u64> {
 
 /// The packed result is that of the library's C interface.
 pub fn shelve(stream: &[u8], answers: &mut [u16], free: &mut [u32]) -> u64 {
-    let mut rows: Rows = [[0; 4]; MAX_LEAVES];
-    let result = shelve_and_enter(stream, answers, free, &mut rows);
+    let mut first = Store::EMPTY;
+    let mut second = None;
+    let result = shelve_and_enter(stream, answers, free, &mut first, &mut second);
     // Not all of the figures are read again, but all are to be written.
-    black_box(&rows);
+    black_box((&first.rows, second.as_ref().map(|store| &store.rows)));
     result
 }
 
-/// Shelves, and enters each item in the rows, which are all 0 before.
+/// Shelves, and enters each item in the rows. The first production's store is
+/// empty before; the second's is made when it is first switched to.
 fn shelve_and_enter(
     stream: &[u8],
     answers: &mut [u16],
     free_units: &mut [u32],
-    rows: &mut Rows,
+    first: &mut Store,
+    second: &mut Option<Store>,
 ) -> u64 {
     let (opening, commands) = match read(stream) {
         Ok(read) => read,
@@ -222,27 +255,79 @@ fn shelve_and_enter(
     if answers.len() < commands || free_units.len() < commands {
         return refused(7, stream.len());
     }
+    let mut at = At {
+        rest: &stream[opening.len..],
+        answers: &mut answers[..commands],
+        free_units: &mut free_units[..commands],
+        answered: 0,
+    };
+    let mut production = 0;
+    let mut own = first;
+    let mut other: Option<&mut Store> = None;
+    let mut unmade = Some(second);
+    loop {
+        let opened_by_other = other.as_ref().map_or(0, |other| other.counts.opened);
+        answer_stretch(&opening, opening.stock - opened_by_other, own, &mut at);
+        let [0x05, to, ref after @ ..] = *at.rest else {
+            let Counts {
+                opened, shelved, ..
+            } = own.counts;
+            let shelved_by_other = other.map_or(0, |other| other.counts.shelved);
+            return (shelved + shelved_by_other) << 16 | (opened + opened_by_other) as u64;
+        };
+        at.rest = after;
+        at.answer((to.into(), 0));
+        if to != production {
+            production = to;
+            let next = match other.take() {
+                Some(made) => made,
+                None => unmade.take().expect("made once").insert(Store::EMPTY),
+            };
+            other = Some(replace(&mut own, next));
+        }
+    }
+}
+
+/// How far a stream is answered.
+struct At<'a> {
+    /// The commands to come.
+    rest: &'a [u8],
+    answers: &'a mut [u16],
+    free_units: &'a mut [u32],
+    answered: usize,
+}
+
+impl At<'_> {
+    fn answer(&mut self, (word, free): (u16, u32)) {
+        self.answers[self.answered] = word;
+        self.free_units[self.answered] = free;
+        self.answered += 1;
+    }
+}
+
+/// Answers the commands up to the next switch, all of the production with this
+/// store, which has so much of the stock.
+fn answer_stretch(opening: &Opening, own_stock: usize, own: &mut Store, at: &mut At<'_>) {
     let Opening {
         capacity,
         stock,
         m,
         trailer,
-        len,
-    } = opening;
+        ..
+    } = *opening;
     // The most that fits beside a trailer. No sum is made of a size above it, so
     // none passes 32 bits.
     let most = capacity.saturating_sub(trailer);
     let leaves = stock.next_power_of_two();
-    let mut trees: Trees = [[0; 2 * MAX_LEAVES]; 5];
-    let mut items: Items = [(0, 0); MAX_COMMANDS];
-    let mut opened = 0;
-    let mut shelved = 0;
-    let mut to_next_m = m; // B2 items up to and with the next m-th
-
-    let mut rest = &stream[len..];
-    let words = answers[..commands].iter_mut();
-    let words = words.zip(&mut free_units[..commands]);
-    for ((word, left), item) in words.zip(0..MAX_COMMANDS) {
+    let Counts {
+        mut opened,
+        mut b2_since_m,
+        mut shelved,
+    } = own.counts;
+    let mut rest = at.rest;
+    let words = at.answers[at.answered..].iter_mut();
+    let words = words.zip(&mut at.free_units[at.answered..]);
+    for ((word, left), item) in words.zip(at.answered..MAX_COMMANDS) {
         let bare = match *rest {
             [0x02, s0, s1, s2, s3, ref after @ ..] => {
                 rest = after;
@@ -251,8 +336,7 @@ fn shelve_and_enter(
             [0x04, n0, n1, ref after @ ..] => {
                 rest = after;
                 let number = u16::from_be_bytes([n0, n1]);
-                let out = take_out(&mut items, rows, &mut trees, leaves, capacity, number);
-                (*word, *left) = match out {
+                (*word, *left) = match take_out(own, leaves, capacity, number) {
                     Some((place, free)) => {
                         shelved -= 1;
                         ((place + 1) as u16, free)
@@ -261,14 +345,17 @@ fn shelve_and_enter(
                 };
                 continue;
             }
+            [0x05, ..] | [] => {
+                at.answered = item;
+                break;
+            }
             [_, ref after @ ..] => {
                 rest = after;
                 // No answer has the places read, in the library neither.
-                let (figure, _) = walk(rows, stock);
+                let (figure, _) = walk(&own.rows, stock);
                 (*word, *left) = (figure as u16, 0);
                 continue;
             }
-            [] => break,
         };
         if bare == 0 {
             (*word, *left) = (0x8000 + 8, 0);
@@ -286,15 +373,18 @@ fn shelve_and_enter(
             1
         } else if 5 * size > 2 * capacity {
             2
-        } else if to_next_m > 1 {
+        } else if b2_since_m + 1 < m {
             3
         } else {
             WITH_A
         };
+        let Store {
+            trees, rows, items, ..
+        } = &mut *own;
         let (leaf, free) = if trees[tree][1] >= size {
             let leaf = find(&trees[tree], leaves, size);
             (leaf, trees[tree][leaf % (2 * MAX_LEAVES)] - size)
-        } else if opened < stock {
+        } else if opened < own_stock {
             opened += 1;
             (leaves + opened - 1, capacity - size)
         } else {
@@ -305,17 +395,17 @@ fn shelve_and_enter(
         match tree {
             WITH_A => {
                 let held_a = enter(rows, place, 1, free, 0);
-                show_class_1(&mut trees, leaf, free, held_a);
-                to_next_m = m;
+                show_class_1(trees, leaf, free, held_a);
+                b2_since_m = 0;
             }
             1 => {
                 let held_a = enter(rows, place, 1, free, 1);
-                show_class_1(&mut trees, leaf, free, held_a);
+                show_class_1(trees, leaf, free, held_a);
             }
             3 => {
                 enter(rows, place, 3, free, 0);
                 store(&mut trees[3], leaf, free);
-                to_next_m -= 1;
+                b2_since_m += 1;
             }
             _ => {
                 enter(rows, place, tree as u32, free, 0);
@@ -326,51 +416,91 @@ fn shelve_and_enter(
         shelved += 1;
         (*word, *left) = ((place + 1) as u16, free);
     }
-    shelved << 16 | opened as u64
+    own.counts = Counts {
+        opened,
+        b2_since_m,
+        shelved,
+    };
+    at.rest = rest;
 }
 
 #[cfg(test)]
 mod tests {
     use super::*;
     use crate::mixes::{Mix, MIXES};
-    use shelf::{Answer, Command, Opening, StreamBuilder};
+    use shelf::{Answer, Command, Opening, Production, StreamBuilder};
 
-    /// A stream of the mix, its answers and its rows.
-    fn shelved(mix: &Mix) -> (StreamBuilder, Vec<u16>, Vec<u32>, Rows) {
+    /// A stream of the mix, its answers and the rows of either production.
+    struct Shelved {
+        stream: StreamBuilder,
+        words: Vec<u16>,
+        free: Vec<u32>,
+        rows: [Rows; 2],
+    }
+
+    fn shelved(mix: &Mix) -> Shelved {
         let stream = mix.stream(1);
         let (mut words, mut free) = stream.rows();
-        let mut rows = [[0; 4]; MAX_LEAVES];
-        shelve_and_enter(stream.bytes(), &mut words, &mut free, &mut rows);
-        (stream, words, free, rows)
+        let (mut first, mut second) = (Store::EMPTY, None);
+        shelve_and_enter(
+            stream.bytes(),
+            &mut words,
+            &mut free,
+            &mut first,
+            &mut second,
+        );
+        let rows = [first, second.unwrap_or(Store::EMPTY)].map(|store| store.rows);
+        Shelved {
+            stream,
+            words,
+            free,
+            rows,
+        }
+    }
+
+    impl Shelved {
+        /// Each command and its answer, with the number of its production.
+        fn answers(&self) -> impl Iterator<Item = (usize, Command, Answer)> + '_ {
+            let stream = self.stream.bytes();
+            let answers = shelf::answers(stream, &self.words, &self.free);
+            let answers = answers.zip(shelf::productions(stream));
+            answers.map(|((command, answer), production)| {
+                (production.number().into(), command, answer)
+            })
+        }
     }
 
     #[test]
     fn the_rows_are_those_of_the_sheet() {
         for mix in &MIXES {
-            let (stream, words, free, rows) = shelved(mix);
-            let opening = Opening::read(stream.bytes()).unwrap();
-            let mut expected = [[0; 4]; MAX_LEAVES];
-            for (expected, row) in expected.iter_mut().zip(shelf::sheet(stream.bytes()).rows()) {
-                *expected = [row.class.into(), row.free, row.held.into(), 0];
+            let shelved = shelved(mix);
+            let bytes = shelved.stream.bytes();
+            let opening = Opening::read(bytes).unwrap();
+            let mut expected = [[[0; 4]; MAX_LEAVES]; 2];
+            for row in shelf::sheet(bytes).rows() {
+                let rows = &mut expected[usize::from(row.production.number())];
+                rows[usize::from(row.number) - 1] =
+                    [row.class.into(), row.free, row.held.into(), 0];
             }
             let mut sizes = Vec::new();
-            for (command, answer) in shelf::answers(stream.bytes(), &words, &free) {
+            for (production, command, answer) in shelved.answers() {
                 let a = |size: u64| u32::from(2 * size > opening.capacity.into());
+                let rows = &mut expected[production];
                 sizes.push(0);
                 match (command, answer) {
                     (Command::Shelve { size }, Answer::Placed { bin, .. }) => {
                         let size = opening.stored(size);
                         *sizes.last_mut().unwrap() = size;
-                        expected[usize::from(bin) - 1][3] += a(size);
+                        rows[usize::from(bin) - 1][3] += a(size);
                     }
                     (Command::Withdraw { number }, Answer::Withdrawn { bin, .. }) => {
                         let size = sizes[usize::from(number) - 1];
-                        expected[usize::from(bin) - 1][3] -= a(size);
+                        rows[usize::from(bin) - 1][3] -= a(size);
                     }
                     _ => {}
                 }
             }
-            assert_eq!(rows, expected, "{}", mix.name);
+            assert_eq!(shelved.rows, expected, "{}", mix.name);
         }
     }
 
@@ -385,6 +515,33 @@ mod tests {
         let result = shelve(stream.bytes(), &mut words, &mut free);
         assert_eq!((result, &words[..4]), (1, &[1, 0x8009, 1, 1][..]));
         assert_eq!((words[4..].to_vec(), free[3]), (vec![0x8011; 10], 60));
+    }
+
+    #[test]
+    fn an_item_of_the_other_production_is_refused() {
+        use Production::{First, Second};
+        let mut stream = StreamBuilder::open(60, 3, 6);
+        stream.shelve(35).switch(Second).withdraw(1).shelve(40);
+        stream.switch(First).withdraw(4).switch(First).shelve(30);
+        stream.switch(Second).shelve(20).count().withdraw(4);
+        stream.switch(First).count().withdraw(1);
+        let expected = [1, 1, 0x8011, 1, 0, 0x8011, 0, 2, 1, 0x800A, 1, 1, 0, 2, 1];
+        for engine in [shelve, crate::scan::shelve] {
+            let (mut words, mut free) = stream.rows();
+            let result = engine(stream.bytes(), &mut words, &mut free);
+            assert_eq!((result, &words[..]), (1 << 16 | 3, &expected[..]));
+            assert_eq!((free[3], free[7], free[11], free[14]), (20, 30, 60, 60));
+        }
+    }
+
+    #[test]
+    fn a_switch_to_no_production_is_refused() {
+        let shelved = |stream: &[u8]| shelve(stream, &mut [0; 2], &mut [0; 2]);
+        let mut stream = StreamBuilder::open(60, 3, 6);
+        stream.switch(1).switch(2);
+        assert_eq!(shelved(stream.bytes()), refused(18, 10));
+        assert_eq!(shelved(&stream.bytes()[..11]), refused(3, 10));
+        assert_eq!(shelve(stream.bytes(), &mut [], &mut []), refused(18, 10));
     }
 
     #[test]
@@ -444,21 +601,24 @@ mod tests {
     #[test]
     fn the_walk_is_that_of_the_request() {
         for mix in &MIXES {
-            let (stream, words, free, rows) = shelved(mix);
-            let mut bins = 0;
-            for (_, answer) in shelf::answers(stream.bytes(), &words, &free) {
+            let shelved = shelved(mix);
+            let mut bins = [0; 2];
+            for (production, _, answer) in shelved.answers() {
+                let bins = &mut bins[production];
                 match answer {
-                    Answer::Placed { bin, .. } => bins = bins.max(bin),
-                    Answer::Counted { opened } => assert_eq!(opened, bins, "{}", mix.name),
-                    Answer::Withdrawn { .. } | Answer::Refused(_) => {}
+                    Answer::Placed { bin, .. } => *bins = bin.max(*bins),
+                    Answer::Counted { opened } => assert_eq!(opened, *bins, "{}", mix.name),
+                    Answer::Withdrawn { .. } | Answer::Switched(_) | Answer::Refused(_) => {}
                 }
             }
             // The first rows are those of a smaller stock.
-            for stock in 1..=MAX_LEAVES as u32 {
-                let figure = stock.min(bins.into());
-                let expected = (figure, stock.min(figure + 1));
-                let walked = walk(&rows, stock as usize);
-                assert_eq!(walked, expected, "{}, stock {stock}", mix.name);
+            for (rows, bins) in shelved.rows.iter().zip(bins) {
+                for stock in 1..=MAX_LEAVES as u32 {
+                    let figure = stock.min(bins.into());
+                    let expected = (figure, stock.min(figure + 1));
+                    let walked = walk(rows, stock as usize);
+                    assert_eq!(walked, expected, "{}, stock {stock}", mix.name);
+                }
             }
         }
     }
