@@ -78,7 +78,15 @@ $1 == "withdraw" {
     next
 }
 
-{ bad("`" $1 "` is no command: open, shelve, count or withdraw") }
+$1 == "production" {
+    operands(1, "number")
+    production = number("production", $2, 255, "; it must be from 0 to 1")
+    must_be_open()
+    printf "%d 05%02X\n", NR, production
+    next
+}
+
+{ bad("`" $1 "` is no command: open, shelve, count, withdraw or production") }
 
 END {
     if (failed)

@@ -16,10 +16,10 @@ function word(at) { return half(at) * 65536 + half(at + 2) }
 # How large a master is, and where there is a trailer, what it takes up.
 function units(size) { return size " units" (trailer ? ", " (size + trailer) " with its trailer" : "") }
 
-# Where each command starts, and what it is called: a master by its size, a withdrawal by the number that it names.
-# Only the opening 11 (hex) has a trailer.
+# Where each command starts, which production it belongs to, and what it is called: a master by its size, a withdrawal
+# by the number that it names. Only the opening 11 (hex) has a trailer.
 function walk(    at) {
-    start[0] = 0
+    start[0] = current = 0
     at = 8
     if (byte[0] == 17) {
         trailer = half(at)
@@ -27,20 +27,32 @@ function walk(    at) {
     }
     while (at < bytes) {
         start[++commands] = at
+        production[commands] = current
         if (byte[at] == 2) {
             what[commands] = "the master of " units(word(at + 1))
             at += 5
         } else if (byte[at] == 4) {
-            what[commands] = "the withdrawal of " half(at + 1)
+            named[commands] = half(at + 1)
+            what[commands] = "the withdrawal of " named[commands]
             at += 3
+        } else if (byte[at] == 5) {
+            current = byte[at + 1]
+            at += 2
         } else
             at++
     }
 }
 
-function limits(name, number, least, most) {
+function limits(n, name, number, least, most) {
     if (number < least || number > most)
-        say(spot(0), "the " name " is " number "; it must be from " least " to " most)
+        say(spot(n), "the " name " is " number "; it must be from " least " to " most)
+}
+
+# The number of the command at this offset.
+function command_at(offset,    n) {
+    for (n = 1; start[n] != offset; n++)
+        ;
+    return n
 }
 
 function too_many() { say(spot(4097), "this is command 4097; at most 4096 may follow the opening") }
@@ -49,22 +61,30 @@ function refuse_stream(number, offset) {
     if (number == 1)
         say("byte 0", "the stream " (bytes ? "starts with " hex(0) : "is empty") "; it must start with the opening, 01 or 11")
     else if (number == 2)
-        say("byte " offset, "there is no command " hex(offset) ": only 01, 02, 03, 04 and 11")
+        say("byte " offset, "there is no command " hex(offset) ": only 01, 02, 03, 04, 05 and 11")
     else if (number == 3)
         say("byte " offset, "the stream ends before the operands of " hex(offset) " do")
     else if (number == 4)
         say("byte " offset, "a second opening; a stream has one")
     else if (number == 5) {
-        limits("capacity", word(1), 1, 16777216)
-        limits("stock", half(5), 1, 512)
-        limits("m", byte[7], 6, 9)
-    } else
+        limits(0, "capacity", word(1), 1, 16777216)
+        limits(0, "stock", half(5), 1, 512)
+        limits(0, "m", byte[7], 6, 9)
+    } else if (number == 18)
+        limits(command_at(offset), "production", byte[offset + 1], 0, 1)
+    else
         too_many()
+}
+
+# A master of the other production is on the shelf, but cannot be taken out.
+function reason(n, number,    other) {
+    other = production[named[n]]
+    return number == 17 && shelved[named[n]] && other != production[n] ? "that master is production " other "'s" : why[number]
 }
 
 function refuse_command(n, number) {
     if (++refused <= 20)
-        say(spot(n), what[n] " (command " n ") was refused with " number ": " why[number])
+        say(spot(n), what[n] " (command " n ") was refused with " number ": " reason(n, number))
 }
 
 BEGIN {
@@ -89,6 +109,10 @@ $1 == "L" {
         too_many()
     say(rows ? spot(commands) : "byte 32768", "here the stream grows longer than 32768 bytes")
 }
+
+$1 == "P" { shelved[$2] = 1 }
+
+$1 == "O" { delete shelved[named[$2]] }
 
 $1 == "R" { refuse_command($2, $3) }
 

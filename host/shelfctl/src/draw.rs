@@ -4,7 +4,7 @@ use std::fmt::{self, Write};
 
 use shelf::Row;
 
-use crate::packing::{Bin, Packing};
+use crate::packing::{Bin, Packing, OF_BOTH};
 
 const COLUMNS: usize = 80;
 /// Columns before the bar, and those of the bar within its frame.
@@ -27,18 +27,18 @@ impl fmt::Display for Drawing<'_> {
         if packing.bins.is_empty() {
             return Ok(());
         }
+        if packing.of_both() {
+            writeln!(f, "{OF_BOTH}")?;
+        }
         let legend = [1, 2, 3, 4].map(|class| format!("{} class {class}", shade(class)));
         writeln!(f, "\n   no class     load     free   {}", legend.join("  "))?;
         for bin in &packing.bins {
             let Row {
-                number,
-                class,
-                load,
-                free,
-                ..
+                class, load, free, ..
             } = bin.row;
+            let name = packing.name(bin);
             let bar = bar(bin, packing.opening.capacity);
-            writeln!(f, "{number:>5}{class:>6}{load:>9}{free:>9} │{bar}│")?;
+            writeln!(f, "{name:>5}{class:>6}{load:>9}{free:>9} │{bar}│")?;
             if !bin.items.is_empty() {
                 write_items(f, bin)?;
             }
@@ -101,18 +101,22 @@ fn write_items(f: &mut fmt::Formatter<'_>, bin: &Bin) -> fmt::Result {
 mod tests {
     use super::*;
     use crate::outcome::Shelved;
+    use shelf::Production;
 
     /// The widest shelf: the most bins, the largest numbers, many sizes.
     #[test]
     fn a_drawing_fits_80_columns() {
-        let mut stream = shelf::StreamBuilder::open_with_trailer(16_777_216, 512, 6, 65_535);
-        for i in 0..4_096 {
-            stream.shelve([9_000_000, 7_000_000, 6_000_000, 40_000 + i][i as usize % 4]);
-        }
-        let Shelved { packing, .. } = Shelved::of(stream.bytes()).unwrap();
-        assert_eq!(packing.bins.len(), 512);
-        for line in Drawing(&packing).to_string().lines() {
-            assert!(line.chars().count() <= COLUMNS, "{line}");
+        for production in Production::BOTH {
+            let mut stream = shelf::StreamBuilder::open_with_trailer(16_777_216, 512, 6, 65_535);
+            stream.switch(production);
+            for i in 0..4_095 {
+                stream.shelve([9_000_000, 7_000_000, 6_000_000, 40_000 + i][i as usize % 4]);
+            }
+            let Shelved { packing, .. } = Shelved::of(stream.bytes()).unwrap();
+            assert_eq!(packing.bins.len(), 512);
+            for line in Drawing(&packing).to_string().lines() {
+                assert!(line.chars().count() <= COLUMNS, "{line}");
+            }
         }
     }
 }

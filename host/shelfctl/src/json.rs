@@ -4,7 +4,7 @@ use std::fmt::Write;
 
 use shelf::{Answer, Command, Opening, Row};
 
-use crate::outcome::{Outcome, Shelved};
+use crate::outcome::{Answered, Outcome, Shelved};
 use crate::packing::Packing;
 use crate::source::MAX_STREAM;
 
@@ -50,10 +50,15 @@ fn accepted(shelved: &Shelved) -> String {
     )
 }
 
-fn answer(number: usize, (command, answer): (Command, Answer)) -> String {
+fn answer(number: usize, answered: Answered) -> String {
+    let Answered {
+        production,
+        command,
+        answer,
+    } = answered;
     let operand = match (command, answer) {
         (Command::Shelve { size }, _) => format!(", \"size\": {size}"),
-        (Command::Count, _) => String::new(),
+        (Command::Count | Command::Switch(_), _) => String::new(),
         (Command::Withdraw { number }, Answer::Refused(_)) => format!(", \"withdraw\": {number}"),
         (Command::Withdraw { number }, _) => format!(", \"withdrawn\": {number}"),
     };
@@ -62,27 +67,31 @@ fn answer(number: usize, (command, answer): (Command, Answer)) -> String {
             format!("\"cartridge\": {bin}, \"free\": {free}")
         }
         Answer::Counted { opened } => format!("\"count\": {opened}"),
+        Answer::Switched(next) => format!("\"switched\": {}", next.number()),
         Answer::Refused(why) => {
             let reason = string(&why.to_string());
             format!("\"refusal\": {}, \"reason\": {reason}", why.number())
         }
     };
-    format!("{{\"command\": {number}{operand}, {result}}}")
+    let production = production.number();
+    format!("{{\"command\": {number}, \"production\": {production}{operand}, {result}}}")
 }
 
 fn cartridges(packing: &Packing) -> String {
     array(packing.bins.iter().map(|bin| {
         let Row {
+            production,
             number,
             class,
             load,
             free,
             held,
         } = bin.row;
+        let production = production.number();
         let commands: Vec<usize> = bin.commands().collect();
         format!(
-            "{{\"number\": {number}, \"class\": {class}, \"load\": {load}, \"free\": {free}, \
-             \"held\": {held}, \"commands\": {commands:?}}}"
+            "{{\"production\": {production}, \"number\": {number}, \"class\": {class}, \
+             \"load\": {load}, \"free\": {free}, \"held\": {held}, \"commands\": {commands:?}}}"
         )
     }))
 }
@@ -116,6 +125,7 @@ fn string(text: &str) -> String {
 mod tests {
     use super::*;
     use crate::source::Source;
+    use shelf::Production;
 
     #[test]
     fn strings_are_escaped() {
@@ -127,22 +137,26 @@ mod tests {
         let mut stream = shelf::StreamBuilder::open(60, 1, 6);
         stream.shelve(35).shelve(61).count();
         stream.withdraw(1).withdraw(1).shelve(40);
+        stream.switch(Production::Second).withdraw(6).count();
         let source = Source::raw(stream.into_bytes());
         let outcome = Outcome::of(&source);
         let expected = r#"{
 "accepted": true,
 "opening": {"capacity": 60, "stock": 1, "m": 6, "trailer": 0},
 "answers": [
-{"command": 1, "size": 35, "cartridge": 1, "free": 25},
-{"command": 2, "size": 61, "refusal": 9, "reason": "size and trailer above the capacity"},
-{"command": 3, "count": 1},
-{"command": 4, "withdrawn": 1, "cartridge": 1, "free": 60},
-{"command": 5, "withdraw": 1, "refusal": 17, "reason": "no master of that number is on the shelf"},
-{"command": 6, "size": 40, "cartridge": 1, "free": 20}
+{"command": 1, "production": 0, "size": 35, "cartridge": 1, "free": 25},
+{"command": 2, "production": 0, "size": 61, "refusal": 9, "reason": "size and trailer above the capacity"},
+{"command": 3, "production": 0, "count": 1},
+{"command": 4, "production": 0, "withdrawn": 1, "cartridge": 1, "free": 60},
+{"command": 5, "production": 0, "withdraw": 1, "refusal": 17, "reason": "no master of that number is on the shelf"},
+{"command": 6, "production": 0, "size": 40, "cartridge": 1, "free": 20},
+{"command": 7, "production": 0, "switched": 1},
+{"command": 8, "production": 1, "withdraw": 6, "refusal": 17, "reason": "no master of that number is on the shelf"},
+{"command": 9, "production": 1, "count": 0}
 ],
 "totals": {"masters": 1, "cartridges": 1},
 "cartridges": [
-{"number": 1, "class": 1, "load": 40, "free": 20, "held": 1, "commands": [6]}
+{"production": 0, "number": 1, "class": 1, "load": 40, "free": 20, "held": 1, "commands": [6]}
 ]
 }
 "#;

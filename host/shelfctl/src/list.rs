@@ -13,13 +13,14 @@ impl fmt::Display for List<'_> {
         writeln!(f, "   no class     load     free  held  commands")?;
         for bin in &self.0.bins {
             let Row {
-                number,
                 class,
                 load,
                 free,
                 held,
+                ..
             } = bin.row;
-            write!(f, "{number:>5}{class:>6}{load:>9}{free:>9}{held:>6}")?;
+            let name = self.0.name(bin);
+            write!(f, "{name:>5}{class:>6}{load:>9}{free:>9}{held:>6}")?;
             let mut before = "  ";
             for command in bin.commands() {
                 write!(f, "{before}{command}")?;

@@ -1,6 +1,6 @@
 //! What the library makes of a stream, in lines and in words.
 
-use shelf::{Answer, Command, StreamRefusal, Totals, MAX_COMMANDS};
+use shelf::{Answer, Command, Production, StreamRefusal, Totals, MAX_COMMANDS};
 
 use crate::packing::Packing;
 use crate::source::{Source, MAX_STREAM};
@@ -13,9 +13,18 @@ pub enum Outcome {
     Shelved(Shelved),
 }
 
+/// A command after the opening, with its answer.
+#[derive(Clone, Copy)]
+pub struct Answered {
+    /// The production that it belongs to.
+    pub production: Production,
+    pub command: Command,
+    pub answer: Answer,
+}
+
 pub struct Shelved {
-    /// The commands after the opening, each with its answer.
-    pub answers: Vec<(Command, Answer)>,
+    /// In the order of the commands.
+    pub answers: Vec<Answered>,
     pub totals: Totals,
     pub packing: Packing,
 }
@@ -56,7 +65,14 @@ impl Shelved {
     pub fn of(stream: &[u8]) -> Result<Self, StreamRefusal> {
         let (mut words, mut free) = ([0; MAX_COMMANDS], [0; MAX_COMMANDS]);
         let totals = shelf::shelve(stream, &mut words, &mut free)?;
-        let answers: Vec<_> = shelf::answers(stream, &words, &free).collect();
+        let answers = shelf::answers(stream, &words, &free).zip(shelf::productions(stream));
+        let answers: Vec<Answered> = answers
+            .map(|((command, answer), production)| Answered {
+                production,
+                command,
+                answer,
+            })
+            .collect();
         let packing = Packing::of(stream, &answers);
         Ok(Self {
             answers,
@@ -67,11 +83,12 @@ impl Shelved {
 
     fn lines(&self) -> String {
         let mut lines = String::new();
-        for (number, (_, answer)) in (1..).zip(&self.answers) {
-            lines += &match answer {
+        for (number, answered) in (1..).zip(&self.answers) {
+            lines += &match answered.answer {
                 Answer::Placed { bin, free } => format!("P {number} {bin} {free}\n"),
                 Answer::Counted { opened } => format!("C {number} {opened}\n"),
                 Answer::Withdrawn { bin, .. } => format!("O {number} {bin}\n"),
+                Answer::Switched(production) => format!("S {number} {}\n", production.number()),
                 Answer::Refused(refusal) => format!("R {number} {}\n", refusal.number()),
             };
         }

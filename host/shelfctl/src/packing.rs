@@ -1,7 +1,12 @@
-//! The shelf after a stream: what its sheet says of each cartridge, and the
-//! masters that the answers leave there.
+//! The shelves of both productions after a stream: what its sheet says of each
+//! cartridge, and the masters that the answers leave there.
 
-use shelf::{Answer, Command, Opening, Row};
+use shelf::{Answer, Command, Opening, Production, Row};
+
+use crate::outcome::Answered;
+
+/// Said once where both productions may have cartridges.
+pub const OF_BOTH: &str = "cartridges are PRODUCTION:NUMBER";
 
 pub struct Item {
     /// The number of the command that shelved it.
@@ -27,6 +32,7 @@ impl Bin {
 
 pub struct Packing {
     pub opening: Opening,
+    /// Those of production 0, then those of 1.
     pub bins: Vec<Bin>,
     /// The masters refused.
     pub refused: usize,
@@ -36,7 +42,7 @@ pub struct Packing {
 
 impl Packing {
     /// The packing that an accepted stream left, by its answers.
-    pub fn of(stream: &[u8], answers: &[(Command, Answer)]) -> Self {
+    pub fn of(stream: &[u8], answers: &[Answered]) -> Self {
         let opening = Opening::read(stream).expect("an accepted stream has an opening");
         let sheet = shelf::sheet(stream);
         let bin = |&row: &Row| Bin {
@@ -49,11 +55,11 @@ impl Packing {
             refused: 0,
             withdrawn: 0,
         };
-        for (command, &answered) in (1..).zip(answers) {
-            match answered {
+        for (command, answered) in (1..).zip(answers) {
+            let production = answered.production;
+            match (answered.command, answered.answer) {
                 (Command::Shelve { size }, Answer::Placed { bin, .. }) => {
-                    let bin = &mut packing.bins[usize::from(bin) - 1];
-                    bin.items.push(Item {
+                    packing.bin(production, bin).items.push(Item {
                         command,
                         size,
                         stored: opening.stored(size),
@@ -61,7 +67,7 @@ impl Packing {
                 }
                 (Command::Shelve { .. }, Answer::Refused(_)) => packing.refused += 1,
                 (Command::Withdraw { number }, Answer::Withdrawn { bin, .. }) => {
-                    let bin = &mut packing.bins[usize::from(bin) - 1];
+                    let bin = packing.bin(production, bin);
                     bin.items.retain(|item| item.command != number.into());
                     packing.withdrawn += 1;
                 }
@@ -69,6 +75,31 @@ impl Packing {
             }
         }
         packing
+    }
+
+    /// The bin of this number.
+    fn bin(&mut self, production: Production, number: u16) -> &mut Bin {
+        let first = self
+            .bins
+            .partition_point(|bin| bin.row.production < production);
+        &mut self.bins[first + usize::from(number) - 1]
+    }
+
+    /// Whether production 1 has a cartridge: then a number alone names none.
+    pub fn of_both(&self) -> bool {
+        let last = self.bins.last();
+        last.is_some_and(|bin| bin.row.production == Production::Second)
+    }
+
+    /// What a cartridge is called.
+    pub fn name(&self, bin: &Bin) -> String {
+        let Row {
+            production, number, ..
+        } = bin.row;
+        match self.of_both() {
+            true => format!("{}:{number}", production.number()),
+            false => number.to_string(),
+        }
     }
 
     /// What the stream opened with. Where there is a trailer, the sizes shown are
@@ -118,12 +149,15 @@ mod tests {
     use shelf::{StreamBuilder, Totals};
 
     /// A packing and its totals: every third command takes out what a command
-    /// before it shelved, or nothing.
-    fn packing(mut stream: StreamBuilder, withdrawals: bool) -> (Packing, Totals) {
+    /// before it shelved, or nothing; or goes to the other production, or stays.
+    fn packing(mut stream: StreamBuilder, withdrawals: bool, switches: bool) -> (Packing, Totals) {
         for i in 0..600 {
             stream.shelve(i * 37 % 1_010).count();
             if withdrawals {
                 stream.withdraw((i * 71 % (3 * i + 5)) as u16);
+            }
+            if switches {
+                stream.switch((i * 7 % 5 % 2) as u8);
             }
         }
         let Shelved {
@@ -136,20 +170,22 @@ mod tests {
     fn the_masters_of_a_cartridge_are_those_of_its_row() {
         let plain = StreamBuilder::open(1_000, 90, 7);
         let trailers = StreamBuilder::open_with_trailer(1_000, 90, 7, 20);
-        let openings = [
-            (&plain, false),
-            (&plain, true),
-            (&trailers, false),
-            (&trailers, true),
-        ];
-        for (opening, withdrawals) in openings {
-            let (packing, totals) = packing(opening.clone(), withdrawals);
+        let streams = [&plain, &trailers].map(|opening| {
+            [(false, false), (true, false), (false, true), (true, true)]
+                .map(|(withdrawals, switches)| (opening, withdrawals, switches))
+        });
+        for (opening, withdrawals, switches) in streams.concat() {
+            let (packing, totals) = packing(opening.clone(), withdrawals, switches);
             assert_eq!(packing.bins.len(), usize::from(totals.opened));
             assert_eq!(packing.items(), usize::from(totals.items));
             let withdrawn = packing.withdrawn;
-            assert_eq!(withdrawn > 50, withdrawals);
+            assert_eq!(withdrawn > 20, withdrawals);
             assert_eq!(packing.items() + packing.refused + withdrawn, 600);
-            for (number, Bin { row, items }) in (1..).zip(&packing.bins) {
+            assert_eq!(packing.of_both(), switches);
+            let mut number = 0;
+            for Bin { row, items } in &packing.bins {
+                // Those of the second production are numbered from 1 again.
+                number = if row.number == 1 { 1 } else { number + 1 };
                 assert_eq!(row.number, number);
                 assert_eq!(usize::from(row.held), items.len());
                 let load: u64 = items.iter().map(|item| item.stored).sum();

@@ -4,7 +4,7 @@ use std::fmt::{self, Write};
 
 use shelf::Row;
 
-use crate::packing::{Bin, Packing};
+use crate::packing::{Bin, Packing, OF_BOTH};
 use crate::words;
 
 const ROW: u32 = 34;
@@ -139,7 +139,15 @@ fn header(f: &mut fmt::Formatter<'_>, packing: &Packing) -> fmt::Result {
         "<rect class=\"empty\" x=\"{x}\" y=\"82\" width=\"12\" height=\"12\" rx=\"3\"/>\
          <text class=\"note\" x=\"{}\" y=\"92\">free</text>",
         x + 18,
-    )
+    )?;
+    if packing.of_both() {
+        let x = x + 76;
+        writeln!(
+            f,
+            "<text class=\"note\" x=\"{x}\" y=\"92\">{OF_BOTH}</text>"
+        )?;
+    }
+    Ok(())
 }
 
 /// Lines where the size classes meet, behind the bars of one column.
@@ -171,17 +179,14 @@ fn row(
     let bar = layout.bar;
     let middle = top + BAR_HEIGHT / 2 + 4;
     let Row {
-        number,
-        class,
-        load,
-        free,
-        ..
+        class, load, free, ..
     } = bin.row;
     writeln!(
         f,
-        "<text class=\"number\" x=\"{}\" y=\"{middle}\">{number}</text>\
+        "<text class=\"number\" x=\"{}\" y=\"{middle}\">{}</text>\
          <text class=\"class\" x=\"{}\" y=\"{middle}\">class {class}</text>",
         left - 48,
+        packing.name(bin),
         left - 24,
     )?;
     writeln!(

@@ -101,8 +101,8 @@ impl<'a> Line<'a> {
 }
 
 /// Writes the stream of a text with one command a line: `open CAPACITY STOCK M`
-/// or `open CAPACITY STOCK M TRAILER`, then `shelve SIZE`, `count` and `withdraw
-/// NUMBER`. `#` starts a comment.
+/// or `open CAPACITY STOCK M TRAILER`, then `shelve SIZE`, `count`, `withdraw
+/// NUMBER` and `production NUMBER`. `#` starts a comment.
 pub fn read_text(text: &[u8]) -> Result<Source, BadText> {
     let mut stream: Option<StreamBuilder> = None;
     let mut places = Vec::new();
@@ -131,8 +131,13 @@ pub fn read_text(text: &[u8]) -> Result<Source, BadText> {
                 let number = line.value("number", number, Some(numbers))?;
                 opened(&mut stream, line.number)?.withdraw(number);
             }
+            "production" => {
+                let [number] = line.operands(["number"])?;
+                let number: u8 = line.value("production", number, Some((0, 1)))?;
+                opened(&mut stream, line.number)?.switch(number);
+            }
             other => {
-                let commands = "open, shelve, count or withdraw";
+                let commands = "open, shelve, count, withdraw or production";
                 let message = format!("`{other}` is no command: {commands}");
                 return bad(line.number, message);
             }
@@ -220,6 +225,13 @@ mod tests {
     }
 
     #[test]
+    fn a_production_is_one_byte() {
+        let text = b"open 60 4 6\nproduction 1\ncount\nproduction 0\nproduction 255";
+        let stream = [1, 0, 0, 0, 60, 0, 4, 6, 5, 1, 3, 5, 0, 5, 255];
+        assert_eq!(bytes(text).unwrap(), stream);
+    }
+
+    #[test]
     fn a_trailer_has_an_opening_of_its_own() {
         let opening = [0x11, 0, 0, 0, 60, 0, 4, 6];
         for (trailer, written) in [("0", [0, 0]), ("3", [0, 3]), ("65535", [255, 255])] {
@@ -274,6 +286,12 @@ mod tests {
         assert_eq!(fault("open 60 4 6\nwithdraw x").0, 2);
         let too_large = fault("open 60 4 6\nwithdraw 65536");
         assert!(too_large.1.ends_with("from 1 to 4096"), "{too_large:?}");
+        for production in ["", " 1 2", " x", " -1", " 256"] {
+            assert_eq!(fault(&format!("open 60 4 6\nproduction{production}")).0, 2);
+        }
+        assert_eq!(fault("\nproduction 1").0, 2);
+        let too_large = fault("open 60 4 6\nproduction 256");
+        assert!(too_large.1.ends_with("from 0 to 1"), "{too_large:?}");
         assert_eq!(fault("open 60 65536 6").0, 1);
         assert_eq!(fault("open 60 4 256").0, 1);
         for trailer in ["-1", "x", "65536", "3 3"] {

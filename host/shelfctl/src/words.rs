@@ -1,13 +1,14 @@
 //! Refusals in words, for people: each sentence starts with its place.
 
+use std::collections::HashMap;
 use std::fmt::Display;
 
 use shelf::{
-    Answer, Command, Opening, StreamFault, StreamRefusal, MAX_CAPACITY, MAX_COMMANDS, MAX_M,
-    MAX_STOCK, MIN_M,
+    Answer, Command, Opening, Production, StreamFault, StreamRefusal, MAX_CAPACITY, MAX_COMMANDS,
+    MAX_M, MAX_STOCK, MIN_M,
 };
 
-use crate::outcome::Shelved;
+use crate::outcome::{Answered, Shelved};
 use crate::source::{Source, MAX_STREAM};
 
 /// A long list of refused commands is cut here.
@@ -20,7 +21,7 @@ pub fn of_stream(source: &Source, refusal: StreamRefusal) -> Vec<String> {
         StreamFault::UnknownCommand => {
             let byte = source.bytes[refusal.offset];
             vec![format!(
-                "there is no command {byte:02X}: only 01, 02, 03, 04 and 11"
+                "there is no command {byte:02X}: only 01, 02, 03, 04, 05 and 11"
             )]
         }
         StreamFault::CutShort => {
@@ -33,6 +34,10 @@ pub fn of_stream(source: &Source, refusal: StreamRefusal) -> Vec<String> {
         StreamFault::OpeningOutsideLimits => outside_limits(&source.bytes),
         StreamFault::TooManyCommands => vec![too_many_commands()],
         StreamFault::TooFewWords => vec![refusal.fault.to_string()],
+        StreamFault::NoSuchProduction => {
+            let number = source.bytes[refusal.offset + 1];
+            outside("production", number, 0, 1).into_iter().collect()
+        }
     };
     let spot = source.spot(refusal.offset);
     reasons.iter().map(|why| format!("{spot}: {why}")).collect()
@@ -97,15 +102,34 @@ pub fn units(opening: Opening, size: u32) -> String {
 pub fn of_commands(source: &Source, shelved: &Shelved) -> Vec<String> {
     let mut sentences = Vec::new();
     let mut more = 0;
+    // The production of each master on the shelf, by its command.
+    let mut masters: HashMap<u16, Production> = HashMap::new();
     let offsets = shelf::commands(&source.bytes).map(|(offset, _)| offset);
     for (number, (answered, offset)) in (1..).zip(shelved.answers.iter().zip(offsets)) {
-        let (what, why) = match answered {
+        let Answered {
+            production,
+            command,
+            answer,
+        } = *answered;
+        let (what, refusal, why) = match (command, answer) {
             (Command::Shelve { size }, Answer::Refused(why)) => {
-                let units = units(shelved.packing.opening, *size);
-                (format!("the master of {units}"), why)
+                let units = units(shelved.packing.opening, size);
+                (format!("the master of {units}"), why, why.to_string())
             }
             (Command::Withdraw { number }, Answer::Refused(why)) => {
-                (format!("the withdrawal of {number}"), why)
+                let words = match masters.get(&number) {
+                    Some(other) => format!("that master is production {}'s", other.number()),
+                    None => why.to_string(),
+                };
+                (format!("the withdrawal of {number}"), why, words)
+            }
+            (_, Answer::Placed { .. }) => {
+                masters.insert(number, production);
+                continue;
+            }
+            (Command::Withdraw { number }, _) => {
+                masters.remove(&number);
+                continue;
             }
             _ => continue,
         };
@@ -114,7 +138,7 @@ pub fn of_commands(source: &Source, shelved: &Shelved) -> Vec<String> {
             continue;
         }
         let spot = source.spot(offset);
-        let refusal = why.number();
+        let refusal = refusal.number();
         sentences.push(format!(
             "{spot}: {what} (command {number}) was refused with {refusal}: {why}"
         ));
@@ -153,7 +177,15 @@ mod tests {
         );
         assert_eq!(
             refused(&[1, 0, 0, 0, 60, 0, 4, 6, 3, 7]),
-            ["byte 9: there is no command 07: only 01, 02, 03, 04 and 11"]
+            ["byte 9: there is no command 07: only 01, 02, 03, 04, 05 and 11"]
+        );
+        assert_eq!(
+            refused(&[1, 0, 0, 0, 60, 0, 4, 6, 3, 5]),
+            ["byte 9: the stream ends before the operands of 05 do"]
+        );
+        assert_eq!(
+            refused(&[1, 0, 0, 0, 60, 0, 4, 6, 3, 5, 2]),
+            ["byte 9: the production is 2; it must be from 0 to 1"]
         );
         assert_eq!(
             refused(&[1, 0, 0, 0, 60, 0, 4, 6, 2, 0]),
@@ -215,6 +247,27 @@ mod tests {
                  no master of that number is on the shelf",
                 "line 7: the withdrawal of 2 (command 5) was refused with 17: \
                  no master of that number is on the shelf",
+            ]
+        );
+    }
+
+    #[test]
+    fn a_master_of_the_other_production_is_told() {
+        let text = "open 60 4 6\nshelve 35\nproduction 1\nwithdraw 1\nshelve 22\nproduction 0\n\
+                    withdraw 1\nproduction 1\nwithdraw 1\nwithdraw 2";
+        let refused = |line: usize, named: usize, command: usize, why: &str| {
+            format!(
+                "line {line}: the withdrawal of {named} (command {command}) was refused \
+                 with 17: {why}"
+            )
+        };
+        let not_there = "no master of that number is on the shelf";
+        assert_eq!(
+            listed(text),
+            [
+                refused(4, 1, 3, "that master is production 0's"),
+                refused(9, 1, 8, not_there),
+                refused(10, 2, 9, not_there),
             ]
         );
     }
