@@ -5,7 +5,7 @@
  *
  * Link with libshelf.a, for x86-64 Linux: `rt staticlib shelf` proves the
  * library and writes target/staticlib/libshelf.a. A call allocates nothing; allow
- * it 128 KB of stack (shelf_stream), 192 KB (shelf_sheet) or 17 KB
+ * it 128 KB of stack (shelf_stream), 160 KB (shelf_sheet) or 17 KB
  * (shelf_check_plan).
  *
  * The calls are total: every input within the rules on pointers below has the
