@@ -10,6 +10,7 @@ ghost use Rattle.packing.specs.Plans.{planOf, check};
 ghost use Rattle.packing.specs.Claims.{HoldsAnswered, NeverOverfull, LowestPermitted, FreeUnits, LoadsAddUp, ByStoredSizes, Withdrawals, Stays, AnswersInRange, RefusedLeftOut, Opened, Counts, Productions};
 ghost use Rattle.worst_case.specs.OwnPlan.{OwnPlan};
 ghost use Rattle.worst_case.specs.WorstCase.{WorstCase};
+ghost use Rattle.worst_case.specs.ExactFive.{Least};
 ghost use Rattle.sheet.specs.Sheet.{sheet};
 ghost use Rattle.sheet.specs.Claims.{LinesOf40, OneRowEach, SheetLoadsAddUp, FreeAndLoad, PagesOpen, PagesRunOn};
 ghost use Rattle.shelf.specs.Accepted.{WhenAccepted, OfEach, Independent};
@@ -37,7 +38,10 @@ pub extern "C" fn shelf_stream(stream: &[u8], answers: &mut [u16], free: &mut [u
     ensures answers_in_range { λ _. ⌜ WhenAccepted (now (stream .entry)) (wordsLent (now (answers .entry)) (now (free .entry))) (OfEach AnswersInRange) ⌝ }
     ensures refused_left_out { λ _. ⌜ WhenAccepted (now (stream .entry)) (wordsLent (now (answers .entry)) (now (free .entry))) RefusedLeftOut ⌝ }
     ensures own_plan_passes { λ _. ⌜ WhenAccepted (now (stream .entry)) (wordsLent (now (answers .entry)) (now (free .entry))) (OfEach OwnPlan) ⌝ }
-    ensures worst_case { λ _. ⌜ WhenAccepted (now (stream .entry)) (wordsLent (now (answers .entry)) (now (free .entry))) (OfEach WorstCase) ⌝ }
+    ensures worst_case { λ _. ⌜ WhenAccepted (now (stream .entry)) (wordsLent (now (answers .entry)) (now (free .entry))) (OfEach (WorstCase 15)) ⌝ }
+    ensures sharper { λ _. ⌜ WhenAccepted (now (stream .entry)) (wordsLent (now (answers .entry)) (now (free .entry))) (OfEach (WorstCase 12)) ⌝ }
+    ensures sharpest { λ _. ⌜ WhenAccepted (now (stream .entry)) (wordsLent (now (answers .entry)) (now (free .entry))) (OfEach (WorstCase 5)) ⌝ }
+    ensures none_sharper { λ _. ⌜ WhenAccepted (now (stream .entry)) (wordsLent (now (answers .entry)) (now (free .entry))) (λ o cs. Least (o .m) 5) ⌝ }
 {
     let r = crate::shelve(stream, answers, free);
     codes::stream_code(r)

@@ -16,6 +16,7 @@ ghost use Rattle.packing.specs.Claims.{HoldsAnswered, NeverOverfull, LowestPerm
 ghost use Rattle.worst_case.specs.PlanFits.{Exact};
 ghost use Rattle.worst_case.specs.OwnPlan.{OwnPlan};
 ghost use Rattle.worst_case.specs.WorstCase.{WorstCase};
+ghost use Rattle.worst_case.specs.ExactFive.{Least};
 ghost use Rattle.sheet.specs.Sheet.{sheet};
 ghost use Rattle.sheet.specs.Claims.{LinesOf40, OneRowEach, SheetLoadsAddUp, FreeAndLoad, PagesOpen, PagesRunOn};
 ghost use Rattle.shelf.specs.Accepted.{WhenAccepted, OfEach, Independent};
@@ -30,7 +31,7 @@ ghost use Rattle.shelf.specs.Accepted.{WhenAccepted, OfEach, Independent
 // that it names is not on its production's shelf, and else answers the bin of that item; a bin keeps its number and class, and no B2 is uncounted; every
 // bin answered is one of those opened; without the refused commands the others are answered as they were; the checker passes the plan of the items still
 // shelved; and (demand 3) after each command up to which nothing of a production was withdrawn 3 times the number that it has opened is at most 5k + 15,
-// for every plan of its items that passes and uses k bins.
+// for every plan of its items that passes and uses k bins. It is also at most 5k + 12, and 5k + 5; no constant below 5 would serve, whatever m is.
 pub fn shelve(stream: &[u8], answers: &mut [u16], free: &mut [u32]) -> StreamResult
     ensures result { λ r. ⌜ streamGives r ≡ streamGives (result (verdict (now (stream .entry)) (wordsLent (now (answers .entry)) (now (free .entry))))) ⌝ }
     ensures answers { λ _. ⌜ now (answers .exit) ≡ rowAtExit word (verdict (now (stream .entry)) (wordsLent (now (answers .entry)) (now (free .entry)))) (now (answers .entry)) ⌝ }
@@ -50,7 +51,10 @@ pub fn shelve(stream: &[u8], answers: &mut [u16], free: &mut [u32]) -> StreamRes
     ensures answers_in_range { λ _. ⌜ WhenAccepted (now (stream .entry)) (wordsLent (now (answers .entry)) (now (free .entry))) (OfEach AnswersInRange) ⌝ }
     ensures refused_left_out { λ _. ⌜ WhenAccepted (now (stream .entry)) (wordsLent (now (answers .entry)) (now (free .entry))) RefusedLeftOut ⌝ }
     ensures own_plan_passes { λ _. ⌜ WhenAccepted (now (stream .entry)) (wordsLent (now (answers .entry)) (now (free .entry))) (OfEach OwnPlan) ⌝ }
-    ensures worst_case { λ _. ⌜ WhenAccepted (now (stream .entry)) (wordsLent (now (answers .entry)) (now (free .entry))) (OfEach WorstCase) ⌝ }
+    ensures worst_case { λ _. ⌜ WhenAccepted (now (stream .entry)) (wordsLent (now (answers .entry)) (now (free .entry))) (OfEach (WorstCase 15)) ⌝ }
+    ensures sharper { λ _. ⌜ WhenAccepted (now (stream .entry)) (wordsLent (now (answers .entry)) (now (free .entry))) (OfEach (WorstCase 12)) ⌝ }
+    ensures sharpest { λ _. ⌜ WhenAccepted (now (stream .entry)) (wordsLent (now (answers .entry)) (now (free .entry))) (OfEach (WorstCase 5)) ⌝ }
+    ensures none_sharper { λ _. ⌜ WhenAccepted (now (stream .entry)) (wordsLent (now (answers .entry)) (now (free .entry))) (λ o cs. Least (o .m) 5) ⌝ }
 {
     stream::shelve(stream, answers, free)
 }

@@ -17,9 +17,11 @@ use Rattle.packing.specs.Placing.{firstFit, put, decision, placed}
 use Rattle.packing.specs.Run.{runFrom, stepsOf}
 use Rattle.packing.specs.Plans.{planOf, limits, fault, entries, check}
 use Rattle.packing.specs.Compared.{acceptedSizes, numberOpened, noneOut, used}
-use Rattle.worst_case.specs.ExactFive.{ExactFive}
-use Rattle.packing.proofs.Limits.{within-limits}
-use Rattle.worst_case.proofs.WorstCase.{worst-case-five}
+use Rattle.worst_case.specs.ExactFive.{Least, ExactFive}
+use Rattle.packing.specs.Streams.{accepted, verdict}
+use Rattle.packing.proofs.Limits.{within-limits, limits-within, in-limits}
+use Rattle.packing.proofs.Accepted.{accepted-whole}
+use Rattle.worst_case.proofs.WorstCase.{worst-case}
 
 abbrev opening : ℕ → Opening
 opening m = record { capacity = 11; stock = 512; m = m; trailer = 0 }
@@ -56,6 +58,10 @@ pub exact-five : ExactFive
 exact-five m h =
     let e = met m h in
     record {
-      serves = λ o q cs same good j k plan none ok. omega (arith, worst-case-five o q cs good j k plan none ok);
+      serves = λ o q cs same good j k plan none ok. omega (arith, worst-case 5 (omega arith) o q cs good j k plan none ok);
       no-smaller = λ D serves. omega (arith, e .equal, serves (opening m) First cs refl (e .good) 5 2 plan (e .none) (e .passes));
     }
+
+-- In particular for the m of every accepted stream.
+pub exact-five-of-stream : (stream : List ℕ) (words : ℕ) (o : Opening) (cs : List Command) → verdict stream words ≡ accepted o cs → Least (o .m) 5
+exact-five-of-stream stream words o cs h = let m = in-limits o (accepted-whole words o cs stream h .opening-good) .m in exact-five (o .m) (limits-within 6 9 (o .m) (m .0) (m .1))

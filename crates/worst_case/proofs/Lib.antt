@@ -8,6 +8,7 @@ pub mod BinLoads
 pub mod OwnPlan
 -- Lists of sizes that first fit made, without the model: how many, and how full.
 pub mod Above
+pub mod Used
 pub mod Charges
 pub mod Halves
 pub mod Thirds

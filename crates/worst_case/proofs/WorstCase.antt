@@ -1,6 +1,6 @@
--- Demand 3 of each production: its steps in a run are a trace, and the bound of a trace applies where nothing is taken out of it. It gives the constant 5;
--- the 15 of demand 3 follows.
-use Prim.Native.Nat.{ℕ}
+-- Demand 3 of each production: its steps in a run are a trace, and the bound of a trace applies where nothing is taken out of it. It gives the constant 5,
+-- and so every one above it.
+use Prim.Native.Nat.{ℕ, _≤_}
 use mathlib.Core.Path.{_≡_}
 use mathlib.Core.Bool.{true}
 use mathlib.Core.List.{List}
@@ -15,17 +15,15 @@ use Rattle.packing.specs.Streams.{accepted, verdict}
 use Rattle.packing.specs.Run.{steps}
 use Rattle.packing.proofs.Moves.{trace}
 use Rattle.packing.proofs.Accepted.{accepted-whole}
-use Rattle.worst_case.specs.WorstCase.{WorstCaseWith, WorstCase}
+use Rattle.worst_case.specs.WorstCase.{WorstCase}
 use Rattle.worst_case.proofs.TraceBound.{trace-five}
 
-pub worst-case-five : (o : Opening) (q : Production) (cs : List Command) → openingGood o ≡ true → WorstCaseWith 5 o q cs
-worst-case-five o q cs good j k plan none ok =
-    trace-five o (trace o q (take j cs)) (not-true (any (λ t. isWithdrawn (t .outcome)) (steps o q (take j cs))) none) k plan ok good
+pub worst-case : (C : ℕ) → 5 ≤ C → (o : Opening) (q : Production) (cs : List Command) → openingGood o ≡ true → WorstCase C o q cs
+worst-case C enough o q cs good j k plan none ok =
+    omega
+    (arith, trace-five o (trace o q (take j cs)) (not-true (any (λ t. isWithdrawn (t .outcome)) (steps o q (take j cs))) none) k plan ok good)
 
--- Demand 3.
-pub worst-case : (o : Opening) (q : Production) (cs : List Command) → openingGood o ≡ true → WorstCase o q cs
-worst-case o q cs good j k plan none ok = omega (arith, worst-case-five o q cs good j k plan none ok)
-
--- Demand 3 of both productions of every accepted stream.
-pub worst-case-of-stream : (stream : List ℕ) (words : ℕ) (o : Opening) (q : Production) (cs : List Command) → verdict stream words ≡ accepted o cs → WorstCase o q cs
-worst-case-of-stream stream words o q cs h = worst-case o q cs (accepted-whole words o cs stream h .opening-good)
+-- Of both productions of every accepted stream.
+pub worst-case-of-stream : (C : ℕ) → 5 ≤ C → (stream : List ℕ) (words : ℕ) (o : Opening) (q : Production) (cs : List Command) → verdict stream words ≡ accepted o cs
+    → WorstCase C o q cs
+worst-case-of-stream C enough stream words o q cs h = worst-case C enough o q cs (accepted-whole words o cs stream h .opening-good)

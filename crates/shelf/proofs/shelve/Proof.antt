@@ -1,6 +1,7 @@
 -- `shelve` meets its contract: the equations are those of the stream's call, and what holds of an accepted stream is a theorem about the model.
 use mathlib.Core.Path.{ap}
 use Prim.Native.Nat.{ℕ}
+use native.Mathlib.Omega.{arith}
 use borrow.Author.Needs.{needs}
 use Rattle.packing.specs.Refusals.{streamGives}
 use Rattle.packing.specs.Streams.{wordsLent}
@@ -8,6 +9,7 @@ use Rattle.packing.proofs.Theorems.{holds-answered, never-overfull, lowest-perm
 use Rattle.packing.proofs.Theorems.{opened, counts, productions, independent-streams}
 use Rattle.worst_case.proofs.OwnPlan.{own-plan-of-stream}
 use Rattle.worst_case.proofs.WorstCase.{worst-case-of-stream}
+use Rattle.worst_case.proofs.ExactFive.{exact-five-of-stream}
 use Rattle.shelf.proofs.shelve.Statement.{statement}
 use Rattle.shelf.proofs.shelve.Tie as tie
 
@@ -63,7 +65,13 @@ returns c =
                                       λ o cs e. refused-left-out o cs,
                                       (
                                         λ o cs e q. own-plan-of-stream stream (words s) o q cs e,
-                                        λ o cs e q. worst-case-of-stream stream (words s) o q cs e,
+                                        (
+                                          λ o cs e q. worst-case-of-stream 15 (omega arith) stream (words s) o q cs e,
+                                          (
+                                            λ o cs e q. worst-case-of-stream 12 (omega arith) stream (words s) o q cs e,
+                                            (λ o cs e q. worst-case-of-stream 5 (omega arith) stream (words s) o q cs e, λ o cs e. exact-five-of-stream stream (words s) o cs e),
+                                          ),
+                                        ),
                                       ),
                                     ),
                                   ),
