@@ -32,6 +32,14 @@ int check_header(void)
     uint32_t number, other;
     size_t i;
 
+    CHECK(shelf_most_opened(0) == 0);
+    CHECK(shelf_most_opened(1) == 3);
+    CHECK(shelf_most_opened(2) == 5);
+    CHECK(shelf_most_opened(10) == 18);
+    CHECK(shelf_most_opened(306) == 511);
+    CHECK(shelf_most_opened(307) == SHELF_MAX_STOCK);
+    CHECK(shelf_most_opened(UINT32_MAX) == SHELF_MAX_STOCK);
+
     CHECK(!shelf_is_refused(accepted));
     CHECK(shelf_refusal(accepted) == 0);
     CHECK(shelf_items(accepted) == SHELF_MAX_COMMANDS);

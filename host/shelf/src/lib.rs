@@ -70,6 +70,24 @@ pub const MAX_SHEET_STREAM: usize = 32_768;
 /// The most bytes of a sheet: a line of 41 for each of 512 bins and 12 pages.
 pub const SHEET_BYTES: usize = 21_484;
 
+/// The most bins that a production ever opens of which no item was taken out,
+/// where a plan of its items, by stored sizes, that [`check_plan`] passes uses `k`
+/// bins: three times their number is at most `5 * k + 5`. For every `k` from 1 to
+/// [`MAX_STOCK`] and every `m` there is a stream that opens so many, with the
+/// largest stock; of a smaller one no more than that are opened.
+///
+/// ```
+/// assert_eq!(shelf::most_opened(2), 5); // capacity 11: 6, 5, 6, 4 and 1
+/// assert_eq!(shelf::most_opened(100), 168);
+/// ```
+pub const fn most_opened(k: u32) -> u16 {
+    match k {
+        0 => 0,
+        1..=306 => ((5 * k + 5) / 3) as u16,
+        _ => MAX_STOCK,
+    }
+}
+
 mod ffi {
     extern "C" {
         pub fn shelf_stream(
