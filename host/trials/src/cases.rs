@@ -588,7 +588,7 @@ fn plan_entries(cases: &mut Cases) {
 }
 
 /// Lists that do badly, with the plans that do well: Theorem 1 further on, and
-/// those that reach 3 * opened = 5 * k + 5.
+/// for every k and m one that does as badly as any.
 fn worst_lists(cases: &mut Cases) {
     let name = "five for two, capacity 11";
     cases.placed(name, 11, &[6, 5, 6, 4, 1], &[1, 2, 3, 4, 5]);
@@ -637,7 +637,7 @@ fn family(cases: &mut Cases, name: &str, m: u8, family: Family) {
     cases.library(name, &trial, &paper);
     let entries: Vec<(u32, u32)> = sizes.into_iter().zip(bins).collect();
     cases.plan(name, &own_plan(&entries, capacity, k), Ok(()));
-    cases.check(name, 3 * opened <= 5 * k + 15, || {
+    cases.check(name, 3 * opened <= 5 * k + 5, || {
         format!("{opened} for {k}")
     });
 }

@@ -1,6 +1,7 @@
 //! Lists on which the method does badly, each with a plan that does well.
 
 use crate::rng::Rng;
+use crate::wire::MOST_STOCK;
 
 /// A list with a plan for it.
 pub struct Family {
@@ -69,26 +70,40 @@ pub fn theorem_1_slowly(n: usize) -> Family {
     theorem_1(capacity, &delta)
 }
 
-/// The largest `k` of [`tight`]: for more, the method would pass the stock.
-pub const TIGHT_MOST: u32 = 306;
+/// The largest `k` of [`tight`]: with more the stock could be no worse.
+pub const TIGHT_MOST: u32 = MOST_STOCK as u32;
 
 /// A list for which the method opens as many bins as it ever does where `k` are
-/// the fewest: (5k + 5) / 3, rounded down. It has `k` items above a half, so no
-/// plan has fewer bins.
+/// the fewest: (5k + 5) / 3, rounded down, or the stock. It has `k` items above a
+/// half, so no plan has fewer bins.
 pub fn tight(k: u32) -> Family {
-    let (capacity, list) = match k {
+    let opened = ((5 * k + 5) / 3).min(MOST_STOCK.into());
+    // Beyond 306 a shorter list, and then items above a half, each in its own bin.
+    let shorter = shorter(k, opened - k);
+    let (capacity, mut list) = match shorter {
+        0 => (60, vec![(21, 1); (opened - k) as usize]),
         1 => (60, vec![(31, 1), (21, 1), (8, 1)]),
         2 => (11, vec![(6, 1), (5, 1), (6, 2), (4, 2), (1, 2)]),
-        _ => with_near_quarters(k),
+        _ => with_near_quarters(shorter),
     };
+    list.extend((shorter + 1..=k).map(|bin| (capacity / 2 + 1, bin)));
     let (sizes, bins) = list.into_iter().unzip();
     Family {
         capacity,
         sizes,
         bins,
         k,
-        opened: (5 * k + 5) / 3,
+        opened,
     }
+}
+
+/// The most bins, up to `k`, for which a list of its own opens no more than so
+/// many besides: (2j + 5) / 3, rounded down, for j of them.
+fn shorter(k: u32, besides: u32) -> u32 {
+    (1..=k)
+        .rev()
+        .find(|j| (2 * j + 5) / 3 <= besides)
+        .unwrap_or(0)
 }
 
 /// [`tight`] from 3 on: the capacity, and the sizes with their bins in the plan.
