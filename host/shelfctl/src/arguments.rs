@@ -4,6 +4,8 @@ use std::ffi::{OsStr, OsString};
 use std::os::unix::ffi::{OsStrExt, OsStringExt};
 use std::path::PathBuf;
 
+use shelf::MAX_STOCK;
+
 use crate::format::Format;
 
 /// A file, or the standard input or output in its place.
@@ -29,6 +31,11 @@ pub enum Action {
     Version,
     Shelve(Shelve),
     Check(Place),
+    /// The list that does worst for `k` cartridges, or its plan.
+    Worst {
+        k: u32,
+        plan: bool,
+    },
 }
 
 /// How to shelve a stream, and what to show of it.
@@ -69,6 +76,9 @@ pub fn parse(arguments: impl Iterator<Item = OsString>) -> Result<Action, String
     let mut arguments = arguments.peekable();
     if arguments.next_if(|first| first == "check").is_some() {
         return parse_check(arguments);
+    }
+    if arguments.next_if(|first| first == "worst").is_some() {
+        return parse_worst(arguments);
     }
     let mut shelve = Shelve {
         input: Place::Standard,
@@ -125,6 +135,37 @@ fn parse_check(mut arguments: impl Iterator<Item = OsString>) -> Result<Action, 
     only_file(files).map(Action::Check)
 }
 
+fn parse_worst(arguments: impl Iterator<Item = OsString>) -> Result<Action, String> {
+    let (mut plan, mut numbers) = (false, Vec::new());
+    for argument in arguments {
+        match argument.to_str() {
+            Some("--help" | "-h") => return Ok(Action::Help),
+            Some("--version") => return Ok(Action::Version),
+            Some("--plan") => plan = true,
+            _ if is_option(&argument) => return Err(no_option(&argument)),
+            _ => numbers.push(argument),
+        }
+    }
+    match &numbers[..] {
+        [number] => Ok(Action::Worst {
+            k: cartridges(number)?,
+            plan,
+        }),
+        _ => Err("worst needs one number of cartridges".to_string()),
+    }
+}
+
+fn cartridges(number: &OsStr) -> Result<u32, String> {
+    let digits = number.to_str().filter(|text| !text.starts_with('+'));
+    match digits.and_then(|text| text.parse().ok()) {
+        Some(k) if (1..=MAX_STOCK.into()).contains(&k) => Ok(k),
+        _ => Err(format!(
+            "{} is no number of cartridges from 1 to {MAX_STOCK}",
+            number.display()
+        )),
+    }
+}
+
 fn is_option(argument: &OsStr) -> bool {
     argument.as_bytes().starts_with(b"-") && argument != "-"
 }
@@ -174,6 +215,13 @@ mod tests {
         }
     }
 
+    fn worst(line: &str) -> (u32, bool) {
+        match parsed(line) {
+            Ok(Action::Worst { k, plan }) => (k, plan),
+            other => panic!("{line}: {other:?}"),
+        }
+    }
+
     fn file(name: &str) -> Place {
         Place::File(name.into())
     }
@@ -194,6 +242,11 @@ mod tests {
         assert_eq!(parsed("check p"), Ok(Action::Check(file("p"))));
         assert_eq!(parsed("check -- -p"), Ok(Action::Check(file("-p"))));
         assert_eq!(parsed("check"), Ok(Action::Check(Place::Standard)));
+        assert_eq!(worst("worst 1"), (1, false));
+        assert_eq!(worst("worst --plan 512"), (512, true));
+        assert_eq!(worst("worst 512 --plan"), (512, true));
+        assert_eq!(shelve("--hex worst").input, file("worst"));
+        assert_eq!(parsed("worst --help"), Ok(Action::Help));
         assert_eq!(parsed("a --version"), Ok(Action::Version));
         assert_eq!(parsed("check --help"), Ok(Action::Help));
     }
@@ -221,6 +274,13 @@ mod tests {
             "--hex --raw",
             "check a b",
             "check --draw a",
+            "worst",
+            "worst 0",
+            "worst 513",
+            "worst -1",
+            "worst +1",
+            "worst 1 2",
+            "worst --draw 1",
         ] {
             assert!(parsed(line).is_err(), "{line}");
         }

@@ -1,4 +1,5 @@
-//! Shelves a stream, prints the answers, and draws the shelf; checks a plan.
+//! Shelves a stream, prints the answers, and draws the shelf; checks a plan;
+//! prints the lists that do worst.
 
 mod arguments;
 mod draw;
@@ -15,6 +16,7 @@ mod source;
 mod svg;
 mod text;
 mod words;
+mod worst;
 
 use std::process::ExitCode;
 
@@ -25,6 +27,7 @@ use input::Input;
 use outcome::{Outcome, Shelved};
 use output::{print, tell};
 use source::Source;
+use worst::Worst;
 
 const ACCEPTED: u8 = 0;
 const REFUSED: u8 = 1;
@@ -45,6 +48,8 @@ fn run() -> Result<u8, Failure> {
         }
         Action::Shelve(shelve) => shelve_input(&shelve),
         Action::Check(plan) => check_plan(&plan),
+        Action::Worst { k, plan: false } => print(&Worst::of(k).commands()).map(|()| ACCEPTED),
+        Action::Worst { k, plan: true } => print(&Worst::of(k).plan()).map(|()| ACCEPTED),
     }
 }
 
