@@ -33,7 +33,7 @@ b2 = capacity / 3 + 1
 abbrev pub besides : ℕ → ℕ
 besides s = capacity - half - s
 
--- Distances from a quarter, by levels: each is more than three times the one below it, and by 1 more than that.
+-- Distances from a quarter, by levels: each is 2 more than three times the one below it, so that a triple leaves less free than any later item takes.
 unfoldable pub distance : (level : ℕ) → ℕ
 distance zero = 1
 distance (suc level) = 3 * distance level + 2
