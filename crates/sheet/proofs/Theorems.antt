@@ -26,7 +26,7 @@ use Rattle.pages.specs.Claims.{countUp, pagesOf, withPage}
 use Rattle.pages.proofs.Bins.{Printable, row-numbers, row-loads, bins-count, bins-lined, bins-pages, row-capacity}
 use Rattle.pages.proofs.Forty.{lines-40}
 use Rattle.sheet.specs.Sheet.{rowsOf, sheetLines}
-use Rattle.sheet.specs.Claims.{LinesOf40, OneRowEach, SheetLoadsAddUp, FreeAndLoad, PagesOpen, PagesRunOn}
+use Rattle.sheet.specs.Claims.{LinesOf40, OneRowEach, SheetLoadsAddUp, FreeAndLoad, PagesOpen, PagesRunOn, SheetPromises}
 use Rattle.sheet.proofs.Both.{numbers-both, rows-both, count-on}
 
 module _ (o : Opening) (cs : List Command) where
@@ -100,3 +100,15 @@ module _ (o : Opening) (cs : List Command) where
 -- The same of every accepted stream.
 pub lines-of-40-of-stream : (stream : List ℕ) (words : ℕ) (o : Opening) (cs : List Command) → verdict stream words ≡ accepted o cs → LinesOf40 o cs
 lines-of-40-of-stream stream words o cs h = let good = accepted-whole words o cs stream h in lines-of-40 o cs (good .opening-good) (good .commands-few)
+
+-- All that is promised of the sheet of an accepted stream.
+pub sheet-promises : (stream : List ℕ) → SheetPromises stream
+sheet-promises stream o cs h =
+    record {
+      lines-of-40 = lines-of-40-of-stream stream mostCommands o cs h;
+      one-row-each = one-row-each o cs;
+      loads-add-up = sheet-loads-add-up o cs;
+      free-and-load = free-and-load o cs;
+      pages-open = pages-open o cs;
+      pages-run-on = pages-run-on o cs;
+    }

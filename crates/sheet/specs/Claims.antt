@@ -2,12 +2,14 @@
 -- is within its limits and the commands are at most 4,096, as in every accepted stream.
 use mathlib.Core.Path.{_≡_}
 use mathlib.Core.List.{List, _++_, map, flatten, List·Memᴰ}
-use Prim.Native.Nat.{_+_}
+use Prim.Native.Nat.{ℕ, _+_}
 use lib.ListN.{length}
 use Rattle.packing.specs.declared.{Opening.Opening, Production.Production, Command.Command}
 use Rattle.packing.specs.declared.Production.the-variants.{First, Second}
 use Rattle.packing.specs.Prelude.{total}
 use Rattle.packing.specs.Bins.{opened}
+use Rattle.packing.specs.Limits.{mostCommands}
+use Rattle.packing.specs.Streams.{accepted, verdict}
 use Rattle.packing.specs.Run.{packing}
 use Rattle.packing.specs.Compared.{shelvedSizes}
 use Rattle.pages.specs.Pages.{Row, Line, pageNumbers, rowsOn, characters}
@@ -43,3 +45,16 @@ module _ (o : Opening) (cs : List Command) where
   -- "Page numbers running on": those on the sheet are 1, 2, 3 and so on, as many as the two productions' pages; none where nothing is opened.
   abbrev pub PagesRunOn : Type 0
   PagesRunOn = pageNumbers (sheetLines o cs) ≡ countUp 1 (pagesOf (opened (packing o First cs)) + pagesOf (opened (packing o Second cs)))
+
+  -- All of it.
+  pub record OfSheet : Type 0 where
+    pub lines-of-40 : LinesOf40
+    pub one-row-each : OneRowEach
+    pub loads-add-up : SheetLoadsAddUp
+    pub free-and-load : FreeAndLoad
+    pub pages-open : PagesOpen
+    pub pages-run-on : PagesRunOn
+
+-- Of every accepted stream.
+abbrev pub SheetPromises : (stream : List ℕ) → Type 0
+SheetPromises stream = (o : Opening) (cs : List Command) → verdict stream mostCommands ≡ accepted o cs → OfSheet o cs

@@ -1,0 +1,2 @@
+-- Each promise is a theorem of packing or of worst_case.
+pub mod Promises
