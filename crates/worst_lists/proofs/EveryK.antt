@@ -1,14 +1,14 @@
 -- Every k is met. The halves open a bin each, and what comes after them goes as the table tells, whatever k and m are. That no plan uses fewer than k bins
 -- is the halves' doing: no two of them go into one.
-use Prim.Native.Nat.{ℕ, zero, suc, _+_, _-_, _*_, _/_, _≤_, _<_, min}
-use mathlib.Core.Path.{_≡_, refl, sym, ap, subst, _∙_}
+use Prim.Native.Nat.{ℕ, zero, suc, _+_, _-_, _*_, _/_, _≤_}
+use mathlib.Core.Path.{_≡_, refl, sym, ap, _∙_}
 use mathlib.Core.Bool.{true}
 use mathlib.Core.List.{List, [], _∷_, _++_, map, List·Memᴰ}
 use native.Mathlib.Omega.{arith}
 use native.Mathlib.Nat.{div-mul-le-self, lt-div-mul-add, le-div-iff-mul-le}
 use borrow.Author.Tests.{lt-ltb}
 use lib.ListN.{length, take, replicate}
-use Rattle.packing.specs.declared.{Opening.Opening, Entry.Entry, PlanResult.PlanResult}
+use Rattle.packing.specs.declared.{Entry.Entry, PlanResult.PlanResult}
 use Rattle.packing.specs.declared.Production.the-variants.{First}
 use Rattle.packing.specs.declared.Command.the-variants.{Shelve}
 use Rattle.packing.specs.Prelude.{not}

@@ -1,12 +1,12 @@
 -- Items each of which goes into the bin opened last or into a new one. A test tells them that is quick to compute: in place of the bins it carries the
 -- least load of those left behind, by class, and the last one's class and load. What it foretells is what the method does, one item at a time.
-use Prim.Native.Nat.{ℕ, zero, suc, _+_, _-_, _%_, _≤_, _<_, min}
+use Prim.Native.Nat.{ℕ, suc, _+_, _-_, _%_, _≤_, _<_, min}
 use mathlib.Core.Path.{_≡_, refl, sym, ap, _∙_}
 use mathlib.Core.Bool.{Bool, true, false, _&&_}
-use mathlib.Core.List.{List, [], _∷_, _++_, append-assoc, List·Memᴰ, List·Memᴰ·head, List·Memᴰ·tail, List·Memᴰ·not-nil}
+use mathlib.Core.List.{List, [], _∷_, _++_, List·Memᴰ, List·Memᴰ·head, List·Memᴰ·tail, List·Memᴰ·not-nil}
 use native.Mathlib.Omega.{arith}
 use native.Mathlib.Nat.{mod-eq-of-lt}
-use borrow.Author.Tests.{eqb-true, leb-true, leb-false, ltb-true, lt-leb, ne-eqb, eq-eqb, le-ltb}
+use borrow.Author.Tests.{eqb-true, leb-true, ltb-true, lt-leb, ne-eqb, eq-eqb, le-ltb}
 use lib.Dec.{eqb, leb, ltb}
 use lib.ListN.{length, length-append}
 use Rattle.packing.specs.declared.{Opening.Opening, SizeClass.SizeClass}
@@ -17,7 +17,6 @@ use Rattle.packing.specs.Bins.{Item, Bin, Packing, empty, opened, load, add, ki
 use Rattle.packing.specs.Placing.{toClass, classOf, targetOf, permitted, target, hasSpace, firstFit, put, takes, binFor, spent, placed}
 use Rattle.packing.proofs.Tests.{both-true, each-cons, each-append}
 use Rattle.packing.proofs.Putting.{fresh}
-use Rattle.packing.proofs.Decided.{IsPlaced}
 
 -- The class of the bins that an item goes to, if it is no m-th B2.
 abbrev pub classFor : SizeClass → ℕ

@@ -15,10 +15,10 @@ use Rattle.packing.specs.Refusals.{isRefused, isWithdrawn}
 use Rattle.packing.specs.Bins.{Item, Packing, empty, opened, stored, kind}
 use Rattle.packing.specs.Placing.{into, binFor, spent, decision, placed}
 use Rattle.packing.specs.Shelves.{Shelf, stockLeft}
-use Rattle.packing.specs.Run.{item, told, Step, placement, answerTo, next, runFrom, shelfFrom, stepsOf, entriesOf}
+use Rattle.packing.specs.Run.{item, told, placement, next, runFrom, shelfFrom, stepsOf, entriesOf}
 use Rattle.packing.proofs.Tests.{both-true, each-cons}
 use Rattle.packing.proofs.Decided.{goes-in, decides}
-use Rattle.worst_lists.proofs.Onward.{Standing, passesBy, fitsLast, joins, opens, onward, Stands, Passed, passed, stands-join, join-not-spent, stands-open, open-not-spent}
+use Rattle.worst_lists.proofs.Onward.{Standing, passesBy, fitsLast, joins, opens, onward, Stands, passed, stands-join, join-not-spent, stands-open, open-not-spent}
 
 module _ (o : Opening) (plain : o .trailer ≡ 0) (six : 6 ≤ o .m) (all : ℕ) (enough : all ≤ o .stock) where
   -- Production 0 with this packing, and nothing in the other.

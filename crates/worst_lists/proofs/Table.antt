@@ -10,7 +10,7 @@ use lib.Dec.{leb}
 use lib.ListN.{length}
 use Rattle.packing.specs.SizeClasses.{sizeClass}
 use Rattle.packing.proofs.Tests.{both-true}
-use Rattle.worst_lists.specs.Lists.{stock, capacity, half, distance, near, front}
+use Rattle.worst_lists.specs.Lists.{capacity, half, distance, near, front}
 use Rattle.worst_lists.proofs.Onward.{Standing, onward}
 use Rattle.worst_lists.proofs.Planned.{aboveQuarter, belowQuarter, paired}
 

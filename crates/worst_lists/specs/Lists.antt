@@ -63,7 +63,7 @@ front (suc zero) = b2 ∷ []
 front (suc (suc zero)) = b2 ∷ besides b2 ∷ []
 front (suc (suc (suc more))) = b1 ∷ b2 ∷ besides b1 ∷ besides b2 ∷ nearQuarter ((3 * more + 1) / 2)
 
--- The most that the method opens where k bins are enough.
+-- The most that the method opens where k bins are enough: by the bound, rounded down, and by the stock.
 abbrev pub most : (k : ℕ) → ℕ
 most k = min stock ((5 * k + 5) / 3)
 
