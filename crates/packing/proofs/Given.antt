@@ -16,7 +16,7 @@ use Rattle.packing.specs.Bins.{Packing, freeOn, stored}
 use Rattle.packing.specs.Placing.{binFor, placed}
 use Rattle.packing.specs.Withdrawing.{holdsNamed, binHolding, without}
 use Rattle.packing.specs.Shelves.{Shelf, emptyShelf, of, own, stockLeft}
-use Rattle.packing.specs.Run.{item, answerTo, next, answerOn, nextShelf, runFrom}
+use Rattle.packing.specs.Run.{item, next, answerOn, nextShelf, runFrom}
 use Rattle.packing.specs.Claims.{StreamGivesBack, PlanGivesBack, WordsGiveBack}
 use Rattle.packing.proofs.Limits.{in-limits}
 use Rattle.packing.proofs.Tests.{clash}

@@ -6,7 +6,7 @@ use mathlib.Core.Bool.{Bool, true, false, not}
 use mathlib.Core.List.{List, [], _∷_, _++_, map, reverse, reverseAux, map-append, map-map, append-nil, reverse-append, List·Memᴰ, List·Memᴰ·head, List·Memᴰ·tail}
 use native.Mathlib.Omega.{arith}
 use lib.Dec.{eqb, eqb·zero-suc, eqb·suc-zero, eqb·suc-suc}
-use lib.ListN.{length, getD}
+use lib.ListN.{getD}
 use Rattle.packing.specs.Prelude.{if_then_else_, total, keep, Opening, Production, Command, Outcome}
 use Rattle.packing.specs.Bins.{Item, Bin, Packing, empty, load, itemsOf, add, stored}
 use Rattle.packing.specs.Placing.{firstFit, put, target, classOf, takes, binFor, placed}

@@ -22,10 +22,6 @@ pub mod Classes
 pub mod Lowest
 pub mod FreeUnits
 pub mod Withdrawals
-pub mod Independence
-pub mod Storing
-pub mod Renumbering
-pub mod LeftOut
 pub mod Given
 -- the stream
 pub mod Openings
@@ -34,5 +30,4 @@ pub mod Accepted
 pub mod Walking
 pub mod Underway
 pub mod Offsets
-pub mod Alike
 pub mod Theorems

@@ -1,19 +1,19 @@
 -- What a command may do to the packing of its production, and the trace of a production in a run: every theorem about a production goes by its trace.
 use Prim.Native.Nat.{ℕ, suc, _+_, _≤_}
-use mathlib.Core.Path.{_≡_, refl}
-use mathlib.Core.Bool.{Bool, true, false, not}
+use mathlib.Core.Path.{_≡_, refl, ap, _∙_}
+use mathlib.Core.Bool.{Bool, true, false, not, _||_}
 use mathlib.Core.List.{List, [], _∷_}
 use native.Mathlib.Omega.{arith}
 use lib.ListN.{length}
 use Rattle.packing.specs.Prelude.{if_then_else_, any, Opening, Production, First, Second, Command, Shelve, Count, Withdraw, Switch}
 use Rattle.packing.specs.Prelude.{Outcome, Placed, Counted, Withdrawn, Switched, Refused, ItemReason, NotShelved}
-use Rattle.packing.specs.Refusals.{isRefused}
+use Rattle.packing.specs.Refusals.{isRefused, isPlaced, isWithdrawn, isSwitched}
 use Rattle.packing.specs.Bins.{Item, Packing, empty, opened, freeOn, stored}
 use Rattle.packing.specs.Placing.{Decision, binFor, decision, placed}
 use Rattle.packing.specs.Withdrawing.{holdsNamed, binHolding, without, withdrawal}
-use Rattle.packing.specs.Shelves.{Shelf, emptyShelf, of, own, stockLeft, belonging}
+use Rattle.packing.specs.Shelves.{Shelf, emptyShelf, of, own, stockLeft, putBack, belonging}
 use Rattle.packing.specs.Run.{item, told, Step, Shelved, shelving, shelvedBy, answerTo, next, answerOn, nextShelf, stepsOf, runFrom, shelfFrom, steps, packing}
-use Rattle.packing.proofs.Productions.{Whose, its-own, the-others, whose, steps-own, steps-other, own-after, other-after}
+use Rattle.packing.proofs.Productions.{Whose, its-own, the-others, whose, steps-own, steps-other, own-after, other-after, put-same}
 use Rattle.packing.proofs.Decided.{IsPlaced, Decided, goes-in, is-zero, is-above, is-spent, decided}
 
 -- No other command is refused.
@@ -108,3 +108,19 @@ module _ (o : Opening) where
       → {n e : ℕ} {p q : Packing} {ts : List Step} → Trace n p ts e q → (on : List Shelved) → Kept n p on → Kept e q (shelvedBy o ts on)
   carried Kept later keeps (ends l) on h = later _ _ _ on l h
   carried Kept later keeps (moves l b m r) on h = carried Kept later keeps r _ (keeps _ _ _ _ _ _ on m (later _ _ _ on l h))
+
+-- A command that changes nothing leaves the shelf as it was, and the items on it.
+pub unchanged : {o : Opening} {left n : ℕ} {p q : Packing} {c : Command} {a : Outcome} → Move o left p n c a q → ((isPlaced a || isWithdrawn a || isSwitched a) ≡ true → ⊥)
+    → (q ≡ p) × ((r : Production) → belonging r c ≡ r) × ((on : List Shelved) → shelving o n c a on ≡ on)
+unchanged (places d) z = absurd (z refl)
+unchanged (withdraws e) z = absurd (z refl)
+unchanged counts z = (refl, λ r. refl, λ on. refl)
+unchanged switches z = absurd (z refl)
+unchanged (refuses an-item) z = (refl, λ r. refl, λ on. refl)
+unchanged (refuses a-withdrawal) z = (refl, λ r. refl, λ on. refl)
+
+pub unchanged-shelf : (o : Opening) (s : Shelf) (n : ℕ) (c : Command)
+    → ((isPlaced (answerOn o s n c) || isWithdrawn (answerOn o s n c) || isSwitched (answerOn o s n c)) ≡ true → ⊥) → nextShelf o s n c ≡ s
+unchanged-shelf o s n c z =
+    let u = unchanged (move o (stockLeft o s) (own s) n c) z in
+    ap (λ p. putBack (s .current) p s (belonging (s .current) c)) (u .0) ∙ ap (putBack (s .current) (own s) s) (u .1 (s .current)) ∙ put-same s

@@ -7,7 +7,6 @@ use native.Mathlib.Omega.{arith}
 use lib.ListN.{length, take, drop, getD, length-map}
 use lib.Seq.{getD-at}
 use Rattle.packing.specs.Prelude.{Opening, Production, First, Second, Command, Outcome}
-use Rattle.packing.specs.Bins.{Packing}
 use Rattle.packing.specs.Productions.{other, isSame}
 use Rattle.packing.specs.Shelves.{Shelf, emptyShelf, of, own, stockLeft}
 use Rattle.packing.specs.Run.{Step, answerOn, nextShelf, stepsOf, runFrom, shelfFrom, run, outcomes, shelf, current, steps, stillShelved, packing}

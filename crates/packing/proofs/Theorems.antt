@@ -10,7 +10,7 @@ use Rattle.packing.specs.Shelves.{Shelf, belonging}
 use Rattle.packing.specs.Run.{answerOf, run, packing, outcomes, shelfFrom, shelf, current, stillShelved}
 use Rattle.packing.specs.Claims.{HoldsAnswered, NeverOverfull, LoadsAddUp, Stays, Opened, Withdrawals, Prefix, AnswersInRange, Counts, EarlyCount, Productions, RefusedChangesNothing}
 use Rattle.packing.proofs.Productions.{current-after, stays-current}
-use Rattle.packing.proofs.Moves.{trace}
+use Rattle.packing.proofs.Moves.{trace, unchanged-shelf}
 use Rattle.packing.proofs.Reached.{reached, both-in-stock}
 use Rattle.packing.proofs.Numbers.{b2s-are, trace-named, opened-is}
 use Rattle.packing.proofs.Shelved.{lying}
@@ -18,7 +18,6 @@ use Rattle.packing.proofs.Holding.{holds, shown-few}
 use Rattle.packing.proofs.Withdrawals.{withdrawn-exactly, withdrawn-if-there, withdrawn-from}
 use Rattle.packing.proofs.Classes.{classes-stay}
 use Rattle.packing.proofs.Counting.{numbers-answered, walk-finds}
-use Rattle.packing.proofs.LeftOut.{unchanged-shelf}
 use Rattle.packing.proofs.Running.{take-mapped, drop-mapped, run-prefix, answer-at, shelf-at, other-stays}
 pub use Rattle.packing.proofs.SizeClasses.{class-bounds, bounds-class}
 pub use Rattle.packing.proofs.Lowest.{lowest-permitted}
@@ -26,11 +25,7 @@ pub use Rattle.packing.proofs.Stock.{refused-exactly}
 pub use Rattle.packing.proofs.FreeUnits.{free-units}
 pub use Rattle.packing.proofs.Shelved.{one-list}
 pub use Rattle.packing.proofs.Numbers.{opened-is}
-pub use Rattle.packing.proofs.LeftOut.{refused-left-out}
-pub use Rattle.packing.proofs.Independence.{independence, independent-streams}
 pub use Rattle.packing.proofs.Accepted.{accepted-whole}
-pub use Rattle.packing.proofs.Alike.{opened-alike}
-pub use Rattle.packing.proofs.Storing.{by-stored-sizes}
 pub use Rattle.packing.proofs.Given.{stream-gives-back, plan-gives-back, words-give-back}
 
 -- Of one production.

@@ -13,7 +13,6 @@ use Rattle.packing.specs.Streams.{openingLength, behindOpening, wordsLen
 use Rattle.packing.specs.Run.{answerOn, runFrom, shelf, outcomes}
 use Rattle.packing.specs.Underway.{Underway}
 use Rattle.packing.specs.Claims.{WholeStream}
-use Rattle.packing.proofs.Tests.{clash}
 use Rattle.packing.proofs.Accepted.{refused-accepted}
 use Rattle.packing.proofs.Fronts.{whole-passed}
 use Rattle.packing.proofs.Running.{told-length, mapped-more}

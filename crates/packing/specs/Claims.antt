@@ -12,11 +12,9 @@ use Rattle.packing.specs.Placing.{permitted, target, takes}
 use Rattle.packing.specs.Shelves.{Shelf, own, isSwitch}
 use Rattle.packing.specs.Limits.{openingGood, mostCommands}
 use Rattle.packing.specs.Streams.{isOpening, firstByte, openingLength, openingOf, behindOpening, accepted, commands, verdict}
-use Rattle.packing.specs.Openings.{withoutTrailer, withZeroTrailer, moved, noTrailer, byStored}
-use Rattle.packing.specs.Run.{item, Step, answerOn, nextShelf, run, outcomes, answers, shelf, current, steps, placements, stillShelved, packing, result, rowAtExit}
+use Rattle.packing.specs.Run.{item, Step, answerOn, nextShelf, outcomes, answers, current, steps, placements, stillShelved, packing, result}
 use Rattle.packing.specs.Counting.{stockPlaces, walk}
 use Rattle.packing.specs.Compared.{acceptedSizes, numberOpened, noneOut, shelfPlan, shelvedSizes, sizesIn}
-use Rattle.packing.specs.LeftOut.{notRefused, changes, newNumber, resent, outcomesKept, renumberedShelf, renumberedShelved}
 
 -- The inequalities of each size class: the tests before it failed.
 abbrev pub Bounds : (c s : ℕ) → SizeClass → Type 0
@@ -136,13 +134,6 @@ module _ (o : Opening) (cs : List Command) where
       (j size bin free : ℕ) (later : List Command) (others : List Outcome) → drop j cs ≡ Shelve size ∷ later
       → drop j (outcomes o cs) ≡ Placed bin free ∷ others → Lowest o (packing o (current o (take j cs)) (take j cs)) (item (suc j) (stored o size)) bin
 
-  -- "Class, load, the loads' sum, free units, refusal 9 and every plan go by the stored size": all is as without a trailer, with the stored sizes sent.
-  pub record ByStoredSizes : Type 0 where
-    pub same-outcomes : outcomes o cs ≡ outcomes (noTrailer o) (map (byStored o) cs)
-    pub same-shelf : shelf o cs ≡ shelf (noTrailer o) (map (byStored o) cs)
-    pub same-shelved : (q : Production) → stillShelved o q cs ≡ stillShelved (noTrailer o) q (map (byStored o) cs)
-    pub same-accepted : (q : Production) → placements o q cs ≡ placements (noTrailer o) q (map (byStored o) cs)
-
   pub record Withdrawals : Type 0 where
     -- Refused with 17 exactly when the item named is not on the shelf of the production: "a master of the other cannot be taken out".
     pub exactly : (j named : ℕ) (later : List Command) → drop j cs ≡ Withdraw named ∷ later
@@ -157,17 +148,6 @@ module _ (o : Opening) (cs : List Command) where
   -- The answers to the first j commands depend on the opening and those j alone.
   abbrev pub Prefix : Type 0
   Prefix = (j : ℕ) → take j (answers o cs) ≡ answers o (take j cs)
-
-  -- The commands that are kept, each naming the item that it named, are answered as they were, and leave the items as they lay, under their new numbers.
-  pub record SameWithout (kept : Step → Bool) : Type 0 where
-    pub same-outcomes : outcomes o (resent kept (run o cs)) ≡ outcomesKept kept (run o cs)
-    pub same-shelf : shelf o (resent kept (run o cs)) ≡ renumberedShelf (newNumber kept (run o cs)) (shelf o cs)
-    pub same-shelved : (q : Production) → stillShelved o q (resent kept (run o cs)) ≡ map (renumberedShelved (newNumber kept (run o cs))) (stillShelved o q cs)
-
-  -- So it is if the refused commands had not been sent; and if the accepted items and withdrawals alone had been sent, and the commands 05.
-  pub record RefusedLeftOut : Type 0 where
-    pub refused : SameWithout notRefused
-    pub alone : SameWithout changes
 
   -- A count answered equals the number opened there by its production; after the last command, the total returned is of both, and both together are at
   -- most the stock.
@@ -213,13 +193,6 @@ pub record WholeStream (stream : List ℕ) (words : ℕ) (o : Opening) (cs : Lis
 -- An accepted stream is whole.
 abbrev pub AcceptedWhole : (stream : List ℕ) (words : ℕ) (o : Opening) (cs : List Command) → Type 0
 AcceptedWhole stream words o cs = verdict stream words ≡ accepted o cs → WholeStream stream words o cs
-
--- "A stream opened with 01 has trailer 0, so its answers are as before": with 11 and a trailer of 0 in its place the same opening and commands are read,
--- or the same refusal, and so every word of a row is the same.
-pub record OpenedAlike (s : List ℕ) (words : ℕ) : Type 0 where
-  pub no-trailer : (o : Opening) (cs : List Command) → verdict (withoutTrailer s) words ≡ accepted o cs → o .trailer ≡ 0
-  pub same-reading : verdict (withZeroTrailer s) words ≡ moved (verdict (withoutTrailer s) words)
-  pub same-rows : (tells : Outcome → ℕ) (row : List ℕ) → rowAtExit tells (verdict (withZeroTrailer s) words) row ≡ rowAtExit tells (verdict (withoutTrailer s) words) row
 
 -- A new bin is called for and the stock is spent: no permitted bin of the production has space, and "both together have opened it all".
 pub record Spent (o : Opening) (s : Shelf) (i : Item) (bare : ℕ) : Type 0 where

@@ -9,13 +9,10 @@ pub mod Placing
 pub mod Withdrawing
 pub mod Shelves
 pub mod Streams
-pub mod Openings
 pub mod Run
 pub mod Underway
 pub mod Counting
 pub mod Plans
 pub mod Compared
-pub mod LeftOut
-pub mod Independent
 pub mod Claims
 pub mod Worked

@@ -6,7 +6,6 @@ use Rattle.packing.specs.Refusals.{word, freeUnits}
 use Rattle.packing.specs.SizeClasses.{sizeClass}
 use Rattle.packing.specs.Placing.{firstFit, put, decision, placed}
 use Rattle.packing.specs.Streams.{widths, lookup, commands, read, verdict}
-use Rattle.packing.specs.Openings.{withZeroTrailer}
 use Rattle.packing.specs.Withdrawing.{without, withdrawal}
 use Rattle.packing.specs.Run.{runFrom, shelfFrom, stepsOf, packing, outcomes, result, rowAtExit}
 use Rattle.packing.specs.Counting.{stockPlaces, walk}
@@ -82,7 +81,7 @@ sample =
 
 -- The same with 11 and a trailer of 0.
 abbrev pub sampleTrailed : List ℕ
-sampleTrailed = withZeroTrailer (drop 1 sample)
+sampleTrailed = 0x11 ∷ (take 7 (drop 1 sample) ++ 0 ∷ 0 ∷ drop 8 sample)
 
 -- An opening with capacity 1,024 and a trailer of 1 x 256 + 2, and an item of 1 unit.
 abbrev pub trailer258 : List ℕ

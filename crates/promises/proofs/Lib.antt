@@ -1,2 +1,2 @@
--- Each promise is a theorem of packing or of worst_case.
+-- Each promise is a theorem of packing, of alike or of worst_case.
 pub mod Promises

@@ -5,8 +5,11 @@ use mathlib.Core.List.{List}
 use native.Mathlib.Omega.{arith}
 use Rattle.packing.specs.declared.{Opening.Opening, Production.Production, Command.Command}
 use Rattle.packing.specs.Streams.{accepted, verdict}
-use Rattle.packing.proofs.Theorems.{holds-answered, never-overfull, lowest-permitted, free-units, loads-add-up, by-stored-sizes, withdrawals, stays, answers-in-range, refused-left-out}
-use Rattle.packing.proofs.Theorems.{opened, counts, productions, independent-streams}
+use Rattle.packing.proofs.Theorems.{holds-answered, never-overfull, lowest-permitted, free-units, loads-add-up, withdrawals, stays, answers-in-range}
+use Rattle.packing.proofs.Theorems.{opened, counts, productions}
+use Rattle.alike.proofs.LeftOut.{refused-left-out}
+use Rattle.alike.proofs.Storing.{by-stored-sizes}
+use Rattle.alike.proofs.Independence.{independent-streams}
 use Rattle.worst_case.proofs.OwnPlan.{own-plan-of-stream}
 use Rattle.worst_case.proofs.WorstCase.{worst-case-of-stream}
 use Rattle.worst_case.proofs.ExactFive.{exact-five-of-stream}

@@ -1,10 +1,11 @@
 -- What the public call promises of a stream beyond its result and its rows, which are equations: a field a promise. The statements themselves are in the
--- specs of packing and worst_case. Proved in ../proofs/Promises.antt.
+-- specs of packing, alike and worst_case. Proved in ../proofs/Promises.antt.
 use Rattle.packing.specs.Prelude.{ℕ, _≡_, List}
 use Rattle.packing.specs.declared.{Opening.Opening, Production.Production, Command.Command}
 use Rattle.packing.specs.Streams.{accepted, verdict}
-use Rattle.packing.specs.Claims.{HoldsAnswered, NeverOverfull, LowestPermitted, FreeUnits, LoadsAddUp, ByStoredSizes, Withdrawals, Stays, AnswersInRange, RefusedLeftOut, Opened, Counts, Productions}
-use Rattle.packing.specs.Independent.{IndependentStreams}
+use Rattle.packing.specs.Claims.{HoldsAnswered, NeverOverfull, LowestPermitted, FreeUnits, LoadsAddUp, Withdrawals, Stays, AnswersInRange, Opened, Counts, Productions}
+use Rattle.alike.specs.Claims.{ByStoredSizes, RefusedLeftOut}
+use Rattle.alike.specs.Independent.{IndependentStreams}
 use Rattle.worst_case.specs.OwnPlan.{OwnPlan}
 use Rattle.worst_case.specs.WorstCase.{WorstCase}
 use Rattle.worst_case.specs.ExactFive.{Least}

@@ -1,22 +1,24 @@
 -- With a trailer all is as without one, with the stored sizes sent: a command does the same under both openings.
 use mathlib.Core.Path.{_≡_, refl, sym, ap, subst, _∙_}
 use mathlib.Core.Bool.{Bool, true, false}
-use mathlib.Core.List.{List, [], _∷_, _++_, map, flatten}
-use Prim.Native.Nat.{ℕ, suc, _+_, _≤_}
+use mathlib.Core.List.{List, [], _∷_, map, flatten}
+use Prim.Native.Nat.{ℕ, suc, _≤_}
 use native.Mathlib.Decide.{ℕ-discrete}
 use native.Mathlib.Omega.{arith}
 use borrow.Author.Tests.{ne-eqb}
 use lib.Dec.{eqb}
-use Rattle.packing.specs.Prelude.{if_then_else_, Opening, Production, Command, Shelve, Count, Withdraw, Switch, Outcome}
+use Rattle.packing.specs.declared.{Opening.Opening, Production.Production, Command.Command, Outcome.Outcome}
+use Rattle.packing.specs.declared.Command.the-variants.{Shelve, Count, Withdraw, Switch}
+use Rattle.packing.specs.Prelude.{if_then_else_}
 use Rattle.packing.specs.Productions.{isSame}
 use Rattle.packing.specs.Bins.{Item, Packing, stored}
 use Rattle.packing.specs.Placing.{Decision, into, refusing, decision, placed}
 use Rattle.packing.specs.Withdrawing.{withdrawal}
-use Rattle.packing.specs.Openings.{noTrailer, byStored}
+use Rattle.alike.specs.Openings.{noTrailer, byStored}
 use Rattle.packing.specs.Shelves.{Shelf, emptyShelf, own, stockLeft, putBack, belonging}
 use Rattle.packing.specs.Run.{item, told, Step, Shelved, shelving, placement, entriesOf, shelvedBy, answerTo, done, next, answerOn, nextShelf, stepsOf, runFrom, shelfFrom}
-use Rattle.packing.specs.Claims.{ByStoredSizes}
+use Rattle.alike.specs.Claims.{ByStoredSizes}
 use Rattle.packing.proofs.Moves.{Move, places, withdraws, counts, switches, refuses, move}
 
 module _ (o : Opening) where
   abbrev o₀ : Opening

@@ -2,23 +2,26 @@
 -- keep the other's packing alike, and answer its commands alike.
 use Prim.Native.Nat.{ℕ, zero, suc, _<_}
 use mathlib.Core.Path.{_≡_, refl, sym, ap, subst, _∙_}
-use mathlib.Core.Bool.{Bool, true, false, not, _||_, true≢false}
+use mathlib.Core.Bool.{Bool, true, false, _||_, true≢false}
 use mathlib.Core.List.{List, [], _∷_, _++_, map}
 use native.Mathlib.Omega.{arith}
 use borrow.Author.Tests.{not-true}
 use lib.Dec.{eqb, ltb}
 use lib.ListN.{length, take, drop, getD, length-map}
-use Rattle.packing.specs.Prelude.{if_then_else_, any, Opening, Production, First, Second, Command, Shelve, Count, Withdraw, Switch, Outcome, Answer, SizeZero, AboveCapacity, StockSpent}
+use Rattle.packing.specs.declared.{Opening.Opening, Production.Production, Command.Command, Outcome.Outcome, Answer.Answer}
+use Rattle.packing.specs.declared.Production.the-variants.{First}
+use Rattle.packing.specs.declared.Command.the-variants.{Shelve, Count, Withdraw, Switch}
+use Rattle.packing.specs.declared.ItemReason.the-variants.{SizeZero, AboveCapacity, StockSpent}
+use Rattle.packing.specs.Prelude.{if_then_else_, any}
 use Rattle.packing.specs.Productions.{other}
 use Rattle.packing.specs.Refusals.{isRefused}
 use Rattle.packing.specs.Bins.{Item, Packing, stored}
 use Rattle.packing.specs.Placing.{Decision, into, refusing, binFor, spent, decision, placed}
 use Rattle.packing.specs.Shelves.{Shelf, emptyShelf, of, own, stockLeft, belonging}
-use Rattle.packing.specs.Streams.{accepted, verdict}
-use Rattle.packing.specs.Run.{item, told, Step, answerOf, answerTo, next, done, answerOn, nextShelf, stepsOf, runFrom, shelfFrom, run, outcomes, rowAtExit, current}
-use Rattle.packing.specs.Independent.{Replaced, none, same, replaced, isSpent, Differing, Independence, IndependentStreams}
+use Rattle.packing.specs.Run.{item, told, Step, answerOf, answerTo, next, done, answerOn, nextShelf, stepsOf, runFrom, shelfFrom, run, outcomes, current}
+use Rattle.alike.specs.Independent.{Replaced, none, same, replaced, isSpent, Differing, Independence, IndependentStreams}
 use Rattle.packing.proofs.Productions.{Whose, its-own, the-others, whose, other-apart, steps-own, steps-other, answer-of, own-of, other-of, current-of, stays-current}
 use Rattle.packing.proofs.Running.{run-length}
 
 either-false : (x y : Bool) → (x || y) ≡ false → (x ≡ false) × (y ≡ false)
 either-false true y e = absurd (true≢false e)

@@ -6,14 +6,16 @@ use Prim.Native.Nat.{ℕ, zero, suc, _+_}
 use native.Mathlib.Omega.{arith}
 use lib.Dec.{ltb}
 use lib.ListN.{length, take, drop, length-append, take-append-drop}
-use Rattle.packing.specs.Prelude.{if_then_else_, Opening, Command, Outcome, TooFewWords}
+use Rattle.packing.specs.declared.{Opening.Opening, Command.Command, Outcome.Outcome}
+use Rattle.packing.specs.declared.StreamReason.the-variants.{TooFewWords}
+use Rattle.packing.specs.Prelude.{if_then_else_}
 use Rattle.packing.specs.Limits.{openingGood, mostCommands}
 use Rattle.packing.specs.Streams.{openingWidth, openingOf, Front, whole, faulty, frontOf, Read, accepted, refused, follow, commands, read, lent, verdict}
-use Rattle.packing.specs.Openings.{withoutTrailer, withZeroTrailer, moved}
+use Rattle.alike.specs.Openings.{withoutTrailer, withZeroTrailer, moved}
 use Rattle.packing.specs.Run.{rowAtExit}
-use Rattle.packing.specs.Claims.{OpenedAlike}
+use Rattle.alike.specs.Claims.{OpenedAlike}
 use Rattle.packing.proofs.Openings.{read-outside, read-good}
 use Rattle.packing.proofs.Accepted.{accepted-whole}
 
 follow-moved : (c : Command) (r : Read) → follow c (moved r) ≡ moved (follow c r)
 follow-moved c (accepted o cs) = refl

@@ -1,9 +1,11 @@
 -- A run with some of its commands left out: "every other refused command is left out too, and one that names a master is taken to name the same one".
-use Rattle.packing.specs.Prelude.{ℕ, Bool, not, _||_, _&&_, List, map, length, keep, _≤?_, Command, Shelve, Count, Withdraw, Switch, Outcome}
+use Rattle.packing.specs.declared.{Command.Command, Outcome.Outcome}
+use Rattle.packing.specs.declared.Command.the-variants.{Shelve, Count, Withdraw, Switch}
+use Rattle.packing.specs.Prelude.{ℕ, Bool, not, _||_, _&&_, List, map, length, keep, _≤?_}
 use Rattle.packing.specs.Refusals.{isRefused, isPlaced, isWithdrawn, isSwitched}
 use Rattle.packing.specs.Bins.{Item, Bin, Packing}
 use Rattle.packing.specs.Shelves.{Shelf}
 use Rattle.packing.specs.Run.{Shelved, Step}
 
 -- Those that are not refused.
 abbrev pub notRefused : Step → Bool

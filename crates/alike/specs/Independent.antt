@@ -1,10 +1,13 @@
 -- Two lists of commands that differ in one production: "the other production's answers are equal".
-use Rattle.packing.specs.Prelude.{ℕ, _<_, _≡_, Bool, true, false, not, List, [], _∷_, map, length, take, drop, getD, any, Opening, Production, First}
-use Rattle.packing.specs.Prelude.{Command, Outcome, Placed, Counted, Withdrawn, Switched, Refused, ItemReason, SizeZero, AboveCapacity, StockSpent, NotShelved}
+use Rattle.packing.specs.declared.{Opening.Opening, Production.Production, Command.Command, Outcome.Outcome}
+use Rattle.packing.specs.declared.Production.the-variants.{First}
+use Rattle.packing.specs.declared.Outcome.the-variants.{Placed, Counted, Withdrawn, Switched, Refused}
+use Rattle.packing.specs.declared.ItemReason.the-variants.{SizeZero, AboveCapacity, StockSpent, NotShelved}
+use Rattle.packing.specs.Prelude.{ℕ, _<_, _≡_, Bool, true, false, not, List, [], _∷_, map, length, take, drop, getD, any}
 use Rattle.packing.specs.Productions.{other}
 use Rattle.packing.specs.Shelves.{isSwitch, belonging}
 use Rattle.packing.specs.Streams.{accepted, verdict}
 use Rattle.packing.specs.Run.{answerOf, current, run, outcomes, steps, packing, rowAtExit}
 
 -- "Two accepted streams differ only in commands of one production, replaced one for one, none of them 05": r is that production, q the one that the
 -- first of the commands belongs to.

@@ -1,8 +1,10 @@
 -- The two openings beside each other: a stream that begins with 01, and the same with 11 and a trailer of 0 in its place; commands under a trailer, and
 -- the same without one, by their stored sizes.
-use Rattle.packing.specs.Prelude.{ℕ, zero, suc, _+_, List, _∷_, _++_, take, drop, _=?_, if_then_else_, Opening, Command, Shelve, Count, Withdraw, Switch}
+use Rattle.packing.specs.declared.{Opening.Opening, Command.Command}
+use Rattle.packing.specs.declared.Command.the-variants.{Shelve, Count, Withdraw, Switch}
+use Rattle.packing.specs.Prelude.{ℕ, zero, suc, _+_, List, _∷_, _++_, take, drop, _=?_, if_then_else_}
 use Rattle.packing.specs.Bins.{stored}
 use Rattle.packing.specs.Streams.{openingWidth, Read, accepted, refused}
 
 -- The stream that begins with 01, with s behind it.
 abbrev pub withoutTrailer : (s : List ℕ) → List ℕ

@@ -8,34 +8,20 @@ use mathlib.Core.List.{List, [], _∷_, map, List·Memᴰ·not-nil}
 use native.Mathlib.Nat.{eq-or-lt-of-le}
 use native.Mathlib.Omega.{arith}
 use borrow.Author.Tests.{le-leb, lt-leb}
-use Rattle.packing.specs.Prelude.{if_then_else_, total, keep, _≤?_, Opening, Production, First, Second, Command, Outcome, Placed, Counted, Withdrawn, Switched, Refused}
+use Rattle.packing.specs.declared.{Opening.Opening, Production.Production, Command.Command, Outcome.Outcome}
+use Rattle.packing.specs.declared.Production.the-variants.{First, Second}
+use Rattle.packing.specs.declared.Outcome.the-variants.{Placed, Counted, Withdrawn, Switched, Refused}
+use Rattle.packing.specs.Prelude.{if_then_else_, total, keep, _≤?_}
 use Rattle.packing.specs.Refusals.{isRefused, isPlaced, isWithdrawn, isSwitched}
 use Rattle.packing.specs.Productions.{isSame}
-use Rattle.packing.specs.Bins.{Packing, empty}
-use Rattle.packing.specs.Shelves.{Shelf, emptyShelf, of, own, stockLeft, putBack, belonging}
+use Rattle.packing.specs.Bins.{empty}
+use Rattle.packing.specs.Shelves.{Shelf, emptyShelf, of, own, stockLeft}
 use Rattle.packing.specs.Run.{Step, Shelved, shelving, shelvedBy, answerOn, nextShelf, stepsOf, runFrom, shelfFrom, run}
-use Rattle.packing.specs.LeftOut.{notRefused, changes, renamed, newNumber, renumberedShelf, renumberedShelved}
-use Rattle.packing.specs.Claims.{SameWithout, RefusedLeftOut}
+use Rattle.alike.specs.LeftOut.{notRefused, changes, renamed, newNumber, renumberedShelf, renumberedShelved}
+use Rattle.alike.specs.Claims.{SameWithout, RefusedLeftOut}
 use Rattle.packing.proofs.Weights.{oneFor, total-passing}
-use Rattle.packing.proofs.Productions.{put-same}
-use Rattle.packing.proofs.Moves.{Move, places, withdraws, counts, switches, refuses, an-item, a-withdrawal, move}
-use Rattle.packing.proofs.Renumbering.{Marks, Marked, Listed, SameList, same-list, same-on}
-
--- A command that changes nothing leaves the shelf as it was, and the items on it.
-unchanged : {o : Opening} {left n : ℕ} {p q : Packing} {c : Command} {a : Outcome} → Move o left p n c a q → ((isPlaced a || isWithdrawn a || isSwitched a) ≡ true → ⊥)
-    → (q ≡ p) × ((r : Production) → belonging r c ≡ r) × ((on : List Shelved) → shelving o n c a on ≡ on)
-unchanged (places d) z = absurd (z refl)
-unchanged (withdraws e) z = absurd (z refl)
-unchanged counts z = (refl, λ r. refl, λ on. refl)
-unchanged switches z = absurd (z refl)
-unchanged (refuses an-item) z = (refl, λ r. refl, λ on. refl)
-unchanged (refuses a-withdrawal) z = (refl, λ r. refl, λ on. refl)
-
-pub unchanged-shelf : (o : Opening) (s : Shelf) (n : ℕ) (c : Command)
-    → ((isPlaced (answerOn o s n c) || isWithdrawn (answerOn o s n c) || isSwitched (answerOn o s n c)) ≡ true → ⊥) → nextShelf o s n c ≡ s
-unchanged-shelf o s n c z =
-    let u = unchanged (move o (stockLeft o s) (own s) n c) z in
-    ap (λ p. putBack (s .current) p s (belonging (s .current) c)) (u .0) ∙ ap (putBack (s .current) (own s) s) (u .1 (s .current)) ∙ put-same s
+use Rattle.packing.proofs.Moves.{move, unchanged, unchanged-shelf}
+use Rattle.alike.proofs.Renumbering.{Marks, Marked, Listed, SameList, same-list, same-on}
 
 of-empty : (q : Production) → of q emptyShelf ≡ empty
 of-empty First = refl

@@ -11,23 +11,26 @@ use native.Mathlib.Omega.{arith}
 use borrow.Author.Tests.{eqb-true, eqb-false, eq-eqb, ne-eqb}
 use lib.Dec.{eqb}
 use lib.ListN.{length-map}
-use Rattle.packing.specs.Prelude.{total, any, Opening, Production, First, Second, Command, Shelve, Count, Withdraw, Switch, Outcome}
+use Rattle.packing.specs.declared.{Opening.Opening, Production.Production, Command.Command, Outcome.Outcome}
+use Rattle.packing.specs.declared.Production.the-variants.{First, Second}
+use Rattle.packing.specs.declared.Command.the-variants.{Shelve, Count, Withdraw, Switch}
+use Rattle.packing.specs.Prelude.{total, any}
 use Rattle.packing.specs.Refusals.{isRefused}
 use Rattle.packing.specs.SizeClasses.{isA}
 use Rattle.packing.specs.Bins.{Item, Bin, Packing, load, add, kind, freeOn, stored}
 use Rattle.packing.specs.Placing.{Target, toClass, besideA, classOf, firstFit, put, permitted, target, takes, placed}
 use Rattle.packing.specs.Withdrawing.{isNamed, holdsNamed, emptiedOf, without, withdrawal}
 use Rattle.packing.specs.Productions.{other}
 use Rattle.packing.specs.Shelves.{Shelf, of, own, stockLeft, putBack, belonging}
 use Rattle.packing.specs.Run.{item, Shelved, shelving, answerTo, next, answerOn, nextShelf}
-use Rattle.packing.specs.LeftOut.{renamed, renumber, renumberedBin, renumbered, renumberedShelf, renumberedShelved}
+use Rattle.alike.specs.LeftOut.{renamed, renumber, renumberedBin, renumbered, renumberedShelf, renumberedShelved}
 use Rattle.packing.proofs.Tests.{each-cons, each-map, each-keep}
 use Rattle.packing.proofs.Keeping.{if-map, keep-map}
 use Rattle.packing.proofs.Searching.{found, any-map}
 use Rattle.packing.proofs.Decided.{IsPlaced, goes-in, decides}
 use Rattle.packing.proofs.Putting.{fresh, put-each}
 use Rattle.packing.proofs.Productions.{Whose, its-own, the-others, whose, own-after, other-after}
 use Rattle.packing.proofs.Moves.{Move, places, withdraws, counts, switches, refuses, move}
 
 module _ (f : ℕ → ℕ) where
   -- A number whose new one is greater than those of all numbers before it.
