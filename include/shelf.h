@@ -272,9 +272,9 @@ static inline uint32_t shelf_opened(uint64_t result)
 /*
  * The most cartridges that a production ever opens of which no master was taken
  * out, where a plan of its masters, by stored sizes, that shelf_check_plan passes
- * uses k cartridges: three times their number is at most 5k + 5. For every k and
- * m there is a stream that opens so many, with a stock of SHELF_MAX_STOCK. Of a
- * smaller stock no more than that are opened.
+ * uses k cartridges: three times their number is at most 5k + 5. For every k from
+ * 1 to SHELF_MAX_STOCK and every m there is a stream that opens so many, with a
+ * stock of SHELF_MAX_STOCK. Of a smaller stock no more than that are opened.
  */
 static inline uint32_t shelf_most_opened(uint32_t k)
 {

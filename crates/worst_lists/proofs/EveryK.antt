@@ -1,4 +1,4 @@
--- Every k is met. The halves open a bin each, and what comes after them goes as the table tells, whatever k and m are. That no plan uses fewer than k bins
+-- Every k is met. The halves open a bin each, and what comes after them goes as the tables tell, whatever k and m are. That no plan uses fewer than k bins
 -- is the halves' doing: no two of them go into one.
 use Prim.Native.Nat.{ℕ, zero, suc, _+_, _-_, _*_, _/_, _≤_}
 use mathlib.Core.Path.{_≡_, refl, sym, ap, _∙_}
@@ -95,7 +95,7 @@ module _ (m k : ℕ) (good : mGood m ≡ true) (some : 1 ≤ k) (few : k ≤ sto
       sent-from (opening m) refl six (most k) (figures .in-stock) (worst k) (standing 0 0 (most k)) empty 1
       (stands-empty (opening m) six (most k) (figures .in-stock) (standing 0 0 (most k)) refl refl refl) goes-on
 
-  -- The plan, by what the table tells of it.
+  -- The plan, by what the tables tell of it.
   each-good : (s : ℕ) → List·Memᴰ s (worst k) → (1 ≤ s) × (s ≤ capacity)
   each-good s mem = let h = sent .each-good s mem in omega (arith, h .0, h .1)
 

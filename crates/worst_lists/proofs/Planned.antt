@@ -1,7 +1,7 @@
 -- The plan of halves and what lies beside them: what it puts into a bin, the numbers and sizes in it, and a test that is quick to compute by which it fits.
 use Prim.Native.Nat.{ℕ, zero, suc, _+_, _*_, _≤_}
 use mathlib.Core.Path.{_≡_, refl, ap, subst, _∙_}
-use mathlib.Core.Bool.{Bool, true, false, _&&_}
+use mathlib.Core.Bool.{Bool, true, false, _&&_, false≢true}
 use mathlib.Core.List.{List, [], _∷_, _++_, map, map-append, List·Memᴰ, List·Memᴰ·not-nil, Memᴰ·map}
 use native.Mathlib.Omega.{arith}
 use borrow.Author.Tests.{eqb-true, leb-true, ne-eqb}
@@ -61,35 +61,18 @@ on-beside n b a (s ∷ ss) = go (ltb quarter s) (on-beside n (suc b) a ss) (on-b
     go true h g = omega (arith, g)
     go false h g = omega (arith, h)
 
--- Each pair goes in beside a half.
+-- As many of one list as of the other, and each pair goes in beside a half.
 unfoldable pub paired : List ℕ → List ℕ → Bool
 paired [] [] = true
-paired (b ∷ bs) [] = leb (half + b) capacity && paired bs []
-paired [] (a ∷ al) = leb (half + a) capacity && paired [] al
+paired (b ∷ bl) [] = false
+paired [] (a ∷ al) = false
 paired (b ∷ bl) (a ∷ al) = leb (half + (b + a)) capacity && paired bl al
-
--- One that lies in this bin, and then none does of those behind it; or those behind it do.
-in-first : (n before s : ℕ) (ss : List ℕ) (P : ℕ → Type 0) → P s → P (inBin n (suc before) ss) → P (inBin n before (s ∷ ss))
-unfolding inBin
-in-first n before s ss P here later = go (eqb (suc before) n) refl
-  where
-    go : (t : Bool) → eqb (suc before) n ≡ t → P ((if t then s else 0) + inBin n (suc before) ss)
-    go true e =
-        let alone : s ≡ s + inBin n (suc before) ss = omega (arith, in-none n (suc before) ss (omega (arith, eqb-true (suc before) n e))) in
-        subst P alone here
-    go false e =
-        let same : inBin n (suc before) ss ≡ 0 + inBin n (suc before) ss = omega arith in
-        subst P same later
 
 in-pairs : (n before : ℕ) (bl al : List ℕ) → paired bl al ≡ true → half + (inBin n before bl + inBin n before al) ≤ capacity
 unfolding paired inBin
 in-pairs n before [] [] h = omega arith
-in-pairs n before (b ∷ bl) [] h =
-    let e = both-true (leb (half + b) capacity) (paired bl []) h in
-    in-first n before b bl (λ l. half + (l + 0) ≤ capacity) (omega (arith, leb-true (half + b) capacity (e .0))) (in-pairs n (suc before) bl [] (e .1))
-in-pairs n before [] (a ∷ al) h =
-    let e = both-true (leb (half + a) capacity) (paired [] al) h in
-    in-first n before a al (λ l. half + (0 + l) ≤ capacity) (omega (arith, leb-true (half + a) capacity (e .0))) (in-pairs n (suc before) [] al (e .1))
+in-pairs n before (b ∷ bl) [] h = absurd (false≢true h)
+in-pairs n before [] (a ∷ al) h = absurd (false≢true h)
 in-pairs n before (b ∷ bl) (a ∷ al) h =
     let e = both-true (leb (half + (b + a)) capacity) (paired bl al) h in
     go (eqb (suc before) n) refl (leb-true (half + (b + a)) capacity (e .0)) (in-pairs n (suc before) bl al (e .1))

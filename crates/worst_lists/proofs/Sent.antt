@@ -17,7 +17,7 @@ use Rattle.packing.specs.Placing.{into, binFor, spent, decision, placed}
 use Rattle.packing.specs.Shelves.{Shelf, stockLeft}
 use Rattle.packing.specs.Run.{item, told, placement, next, runFrom, shelfFrom, stepsOf, entriesOf}
 use Rattle.packing.proofs.Tests.{both-true, each-cons}
-use Rattle.packing.proofs.Decided.{goes-in, decides}
+use Rattle.packing.proofs.Decided.{IsPlaced, goes-in, decides}
 use Rattle.worst_lists.proofs.Onward.{Standing, passesBy, fitsLast, joins, opens, onward, Stands, passed, stands-join, join-not-spent, stands-open, open-not-spent}
 
 module _ (o : Opening) (plain : o .trailer ≡ 0) (six : 6 ≤ o .m) (all : ℕ) (enough : all ≤ o .stock) where
@@ -31,38 +31,40 @@ module _ (o : Opening) (plain : o .trailer ≡ 0) (six : 6 ≤ o .m) (all : ℕ)
     pub each-good : (s : ℕ) → List·Memᴰ s ss → (1 ≤ s) × (stored o s ≤ o .capacity)
     pub none-out : any (λ t. isWithdrawn (t .outcome)) (stepsOf First (runFrom o (alone p) n (map Shelve ss))) ≡ false
 
-  -- One item that is placed, and then the others.
-  module _ (s n : ℕ) (ss : List ℕ) (p : Packing) where
+  -- One item that is placed, with what is left of the stock, and then the others.
+  module _ (s n : ℕ) (p : Packing) where
     abbrev it : Item
     it = item n (stored o s)
 
     abbrev left : ℕ
     left = stockLeft o (alone p)
 
-    is-placed : 1 ≤ s → stored o s ≤ o .capacity → spent o p it (o .stock) ≡ false → decision o p it left s ≡ into (binFor o p it)
+    -- All of it is left, since the other production has opened none.
+    is-placed : 1 ≤ it .size → it .size ≤ o .capacity → spent o p it (o .stock) ≡ false → IsPlaced o p it left s
     is-placed some within room =
         let whole : left ≡ o .stock = omega arith in
-        decides o p it left s (into (binFor o p it)) (goes-in (record { some = some; within-capacity = within; not-spent = ap (spent o p it) whole ∙ room }))
+        record { some = omega (arith, plain); within-capacity = within; not-spent = ap (spent o p it) whole ∙ room }
 
-    then-sent : 1 ≤ s → stored o s ≤ o .capacity → spent o p it (o .stock) ≡ false → Sent ss (next o left p n (Shelve s)) (suc n) → Sent (s ∷ ss) p n
-    unfolding runFrom shelfFrom stepsOf flatten any
-    then-sent some within room r =
-        let d = is-placed some within room in
-        let rest = stepsOf First (runFrom o (alone (next o left p n (Shelve s))) (suc n) (map Shelve ss)) in
-        record {
-          all-opened = r .all-opened;
-          all-accepted =
-              ap (λ d. map (λ e. e .size) (placement o (Shelve s) (told o (placed o p it) d) ++ entriesOf o rest)) d
-              ∙ ap (λ sizes. stored o s ∷ sizes) (r .all-accepted);
-          each-good = each-cons (λ s. (1 ≤ s) × (stored o s ≤ o .capacity)) (some, within) (r .each-good);
-          none-out = ap (λ d. isWithdrawn (told o (placed o p it) d) || any (λ t. isWithdrawn (t .outcome)) rest) d ∙ r .none-out;
-        }
+    module _ (h : IsPlaced o p it left s) where
+      d : decision o p it left s ≡ into (binFor o p it)
+      d = decides o p it left s (into (binFor o p it)) (goes-in h)
 
-    -- It leaves the packing with it.
-    after : 1 ≤ s → stored o s ≤ o .capacity → spent o p it (o .stock) ≡ false → placed o p it ≡ next o left p n (Shelve s)
-    after some within room =
-        let d = is-placed some within room in
-        sym (ap (λ d. if isRefused (told o (placed o p it) d) then p else placed o p it) d)
+      -- It leaves the packing with it.
+      after : placed o p it ≡ next o left p n (Shelve s)
+      after = sym (ap (λ d. if isRefused (told o (placed o p it) d) then p else placed o p it) d)
+
+      then-sent : (ss : List ℕ) → Sent ss (next o left p n (Shelve s)) (suc n) → Sent (s ∷ ss) p n
+      unfolding runFrom shelfFrom stepsOf flatten any
+      then-sent ss r =
+          let rest = stepsOf First (runFrom o (alone (next o left p n (Shelve s))) (suc n) (map Shelve ss)) in
+          record {
+            all-opened = r .all-opened;
+            all-accepted =
+                ap (λ d. map (λ e. e .size) (placement o (Shelve s) (told o (placed o p it) d) ++ entriesOf o rest)) d
+                ∙ ap (λ sizes. stored o s ∷ sizes) (r .all-accepted);
+            each-good = each-cons (λ s. (1 ≤ s) × (stored o s ≤ o .capacity)) (h .some, h .within-capacity) (r .each-good);
+            none-out = ap (λ d. isWithdrawn (told o (placed o p it) d) || any (λ t. isWithdrawn (t .outcome)) rest) d ∙ r .none-out;
+          }
 
   pub sent-from : (ss : List ℕ) (t : Standing) (p : Packing) (n : ℕ) → Stands o six all enough t p → onward (o .capacity) t (map (stored o) ss) ≡ true → Sent ss p n
   unfolding onward runFrom shelfFrom stepsOf flatten any
@@ -81,7 +83,7 @@ module _ (o : Opening) (plain : o .trailer ≡ 0) (six : 6 ≤ o .m) (all : ℕ)
       c = o .capacity
 
       i : Item
-      i = it s n ss p
+      i = it s n p
 
       k : SizeClass
       k = kind o i
@@ -91,14 +93,10 @@ module _ (o : Opening) (plain : o .trailer ≡ 0) (six : 6 ≤ o .m) (all : ℕ)
           → ((t : Standing) (p : Packing) → Stands o six all enough t p → onward c t (map (stored o) ss) ≡ true → Sent ss p (suc n)) → Sent (s ∷ ss) p n
       go ok true f r others =
           let size = passed o six all enough t p i st ok in
-          let some : 1 ≤ s = omega (arith, size .some, plain) in
-          let room = join-not-spent o six all enough t p i st ok f in
-          let st′ = subst (Stands o six all enough _) (after s n ss p some (size .within-capacity) room) (stands-join o six all enough t p i st ok f) in
-          then-sent s n ss p some (size .within-capacity) room (others _ _ st′ r)
+          let h = is-placed s n p (size .some) (size .within-capacity) (join-not-spent o six all enough t p i st ok f) in
+          then-sent s n p h ss (others _ _ (subst (Stands o six all enough _) (after s n p h) (stands-join o six all enough t p i st ok f)) r)
       go ok false f r others =
           let size = passed o six all enough t p i st ok in
-          let some : 1 ≤ s = omega (arith, size .some, plain) in
           let more = both-true (ltb 0 (t .yet)) (onward c (opens t (stored o s) k) (map (stored o) ss)) r in
-          let room = open-not-spent o six all enough t p i st ok f (more .0) in
-          let st′ = subst (Stands o six all enough _) (after s n ss p some (size .within-capacity) room) (stands-open o six all enough t p i st ok f (more .0)) in
-          then-sent s n ss p some (size .within-capacity) room (others _ _ st′ (more .1))
+          let h = is-placed s n p (size .some) (size .within-capacity) (open-not-spent o six all enough t p i st ok f (more .0)) in
+          then-sent s n p h ss (others _ _ (subst (Stands o six all enough _) (after s n p h) (stands-open o six all enough t p i st ok f (more .0))) (more .1))

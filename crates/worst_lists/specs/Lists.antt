@@ -56,10 +56,10 @@ near (suc level) most below above =
 abbrev pub nearQuarter : (pairs : ℕ) → List ℕ
 nearQuarter pairs = replicate (min 2 pairs) (quarter - distance 7) ++ near 7 2 (pairs - 2) pairs
 
--- Items with which the method opens so many bins besides those of the halves: none is above a half.
+-- Items with which the method opens so many bins besides those of the halves: none is above a half, and as many are above a quarter as below it.
 abbrev pub front : (bins : ℕ) → List ℕ
 front zero = []
-front (suc zero) = b2 ∷ []
+front (suc zero) = nearQuarter 1
 front (suc (suc zero)) = b2 ∷ besides b2 ∷ []
 front (suc (suc (suc more))) = b1 ∷ b2 ∷ besides b1 ∷ besides b2 ∷ nearQuarter ((3 * more + 1) / 2)
 

@@ -66,7 +66,7 @@ fn besides(opened: u32) -> Vec<u32> {
     let rest = |size| CAPACITY - HALF - size;
     match opened {
         0 => vec![],
-        1 => vec![B2],
+        1 => near_quarter(1),
         2 => vec![B2, rest(B2)],
         _ => {
             let pairs = (3 * (opened - 3) + 1) / 2;
