@@ -7,12 +7,13 @@ use Rattle.packing.proofs.Given.{stream-number-back, plan-number-back}
 use Rattle.codes.specs.Codes.{StreamCodeBack, PlanCodeBack}
 
 pub stream-code-back : StreamCodeBack
-stream-code-back (StreamResult.Accepted items opened) (StreamResult.Accepted items′ opened′) f g e =
-    let same : items ≡ items′ = omega (arith, f .1, g .1) in
-    let bins : opened ≡ opened′ = omega (arith, f .1, g .1) in
+stream-code-back (StreamResult.Accepted items opened looks) (StreamResult.Accepted items′ opened′ looks′) f g e =
+    let most : looks ≡ looks′ = omega (arith, f, g) in
+    let same : items ≡ items′ = omega (arith, f, g, most) in
+    let bins : opened ≡ opened′ = omega (arith, f, g, most) in
     cc
-stream-code-back (StreamResult.Accepted items opened) (StreamResult.Refused reason offset) f g e = absurd (omega (arith, f .0, f .1))
-stream-code-back (StreamResult.Refused reason offset) (StreamResult.Accepted items opened) f g e = absurd (omega (arith, g .0, g .1))
+stream-code-back (StreamResult.Accepted items opened looks) (StreamResult.Refused reason offset) f g e = absurd (omega (arith, f))
+stream-code-back (StreamResult.Refused reason offset) (StreamResult.Accepted items opened looks) f g e = absurd (omega (arith, g))
 stream-code-back (StreamResult.Refused reason offset) (StreamResult.Refused reason′ offset′) f g e =
     let number : streamNumber reason ≡ streamNumber reason′ = omega (arith, f, g) in
     let place : offset ≡ offset′ = omega (arith, number) in

@@ -11,14 +11,14 @@ use Rattle.worst_case.specs.PlanFits.{Fits}
 abbrev pub refusalCode : (number place : ℕ) → ℕ
 refusalCode number place = 2 ^ 63 + number * 2 ^ 32 + place
 
--- Accepted: items x 65,536 + bins, both totals of the two productions.
+-- Accepted: looks x 2^32 + items x 65,536 + bins, the latter both totals of the two productions.
 abbrev pub streamCode : StreamResult → ℕ
-streamCode (StreamResult.Accepted items opened) = items * 65_536 + opened
+streamCode (StreamResult.Accepted items opened looks) = looks * 2 ^ 32 + items * 65_536 + opened
 streamCode (StreamResult.Refused reason offset) = refusalCode (streamNumber reason) offset
 
 -- Each figure fits its place in the number.
 abbrev pub FiguresFit : StreamResult → Type 0
-FiguresFit (StreamResult.Accepted items opened) = (items < 65_536) × (opened < 65_536)
+FiguresFit (StreamResult.Accepted items opened looks) = (items < 65_536) × ((opened < 65_536) × (looks < 2 ^ 31))
 FiguresFit (StreamResult.Refused reason offset) = offset < 2 ^ 32
 
 -- Passed: 0.

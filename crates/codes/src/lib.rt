@@ -21,10 +21,15 @@ pub fn stream_code(r: StreamResult) -> u64
     ensures { λ code. ⌜ code ≡ streamCode r ⌝ }
 {
     match r {
-        StreamResult::Accepted { items, opened } => {
-            let high = items as u64 * 65536;
+        StreamResult::Accepted {
+            items,
+            opened,
+            looks,
+        } => {
+            let high = looks as u64 * 4294967296;
+            let middle = items as u64 * 65536;
             let low = opened as u64;
-            high + low
+            high + middle + low
         }
         StreamResult::Refused { reason, offset } => {
             let number = refusals::stream_number(reason);

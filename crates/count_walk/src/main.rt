@@ -42,6 +42,7 @@ fn tally_after(stream: &[u8]) -> Tallies
         StreamResult::Accepted {
             items: _,
             opened: _,
+            looks: _,
         } => {
             let opening = reader::opening_of(stream);
             let stock = opening.stock;

@@ -55,7 +55,7 @@ module _ (o : Opening) (shape : Shape) (n : ℕ) (words : n ≡ rowWords) (good 
             leaf-node (replicate n 0) (base k) (shape .places) i b ∙ zeros k (shape .places + i) a (omega (arith, fitted .few))
             ∙ sym (rw (blank-at i (omega (arith, fitted .few))) (offers-blank k));
       };
-      stock = fitted .enough;
+      fitted = fitted;
       capacity = in-limits o good .capacity .1;
       within = omega arith;
       phase = omega (arith, in-limits o good .m);

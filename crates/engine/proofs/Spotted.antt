@@ -7,19 +7,22 @@ use mathlib.Core.List.{List}
 use mathlib.Mathlib.Data.Bool.Basic.{dichotomy}
 use Prim.Native.Nat.{ℕ, suc, _+_, _-_, _≤_, _<_, max}
 use native.Mathlib.Omega.{arith}
-use lib.Dec.{leb}
+use lib.Dec.{leb, ltb}
 use lib.ListN.{length, List·getD-eq-default}
 use borrow.Author.Tests.{le-leb, lt-leb, lt-ltb, le-ltb, leb-true, leb-false}
 use Rattle.packing.specs.declared.Opening.{Opening}
 use Rattle.packing.specs.declared.ItemReason.the-variants.{StockSpent}
-use Rattle.packing.specs.Prelude.{total}
+use Rattle.packing.specs.Prelude.{total, if_then_else_}
 use Rattle.packing.specs.Bins.{Item, Bin, Packing, opened, load}
-use Rattle.packing.specs.Placing.{refusing, classOf, binFor, spent, decision}
+use Rattle.packing.specs.Placing.{refusing, classOf, takes, binFor, spent, decision}
+use Rattle.packing.specs.Looks.{height, fits}
 use Rattle.packing.specs.Run.{item}
 use Rattle.packing.proofs.Decided.{is-spent, decides}
+use Rattle.packing.proofs.Looks.{height-unique, fits-first}
 use Rattle.tournament.specs.declared.{Shape.Shape, Found.Found}
 use Rattle.tournament.specs.declared.Found.the-variants.{At, Nothing}
 use Rattle.tournament.specs.LowestFit.{lowestFit}
+use Rattle.tournament.specs.Looking.{looksOf}
 use Rattle.tournament.proofs.Fits.{Lowest, Meaning, meaning}
 use Rattle.aim.specs.declared.Counters.{Counters}
 use Rattle.aim.specs.Aims.{home}
@@ -136,9 +139,33 @@ says {o} {c} {size} {n} a left number {shape} {t} {ledger} {notes} left-few soun
     go Nothing f =
         let all : length (shownBy t shape n) ≡ shape .places = leaf-count (sound .index .forest) n (tree-few a) in
         let none : (k : ℕ) → k < shape .places → shownAt t shape n k < size = λ k l. f k (omega arith) in
-        let few : c .opened ≤ shape .places = omega (arith, sound .within, sound .stock) in
+        let few : c .opened ≤ shape .places = omega (arith, sound .within, sound .fitted .enough) in
         ⊎-elim
         (λ q. let l : c .opened < left = leb-false left (c .opened) q in
-        rw q (record { inside = omega (arith, sound .stock); stock = omega arith; model = λ p r. is-anew a left number (sound .index) r none few l }))
+        rw q (record { inside = omega (arith, sound .fitted .enough); stock = omega arith; model = λ p r. is-anew a left number (sound .index) r none few l }))
         (λ q. rw q (λ p r bare some. spends a left number (sound .index) r none few bare some (leb-true left (c .opened) q)))
         (dichotomy (leb left (c .opened)))
+
+-- The looks that the search took, by whether a bin of the packing takes the item.
+pub looked : {o : Opening} {c : Counters} {size n : ℕ} → Aimed o c size n → (number : ℕ) {shape : Shape} {t : List ℕ} {ledger notes : List (List ℕ)}
+    → Sound o shape (store t ledger notes c) → (p : Packing) → Represents o (store t ledger notes c) p
+    → looksOf (shape .height) (lowestFit size (shownBy t shape n)) ≡ (if fits o p (item number size) then 1 + height (o .stock) else 1)
+looked {o} {c} {size} {n} a number {shape} {t} {ledger} {notes} sound p r = go (lowestFit size (shownBy t shape n)) (meaning size (shownBy t shape n))
+  where
+    all : length (shownBy t shape n) ≡ shape .places
+    all = leaf-count (sound .index .forest) n (tree-few a)
+
+    first : fits o p (item number size) ≡ ltb (passed o p (item number size)) (opened p)
+    first = fits-first (takes o p (item number size)) (p .bins)
+
+    h : shape .height ≡ height (o .stock)
+    h = height-unique (o .stock) (shape .height) (record { enough = omega (arith, sound .fitted .enough, sound .fitted .power); least = sound .fitted .least })
+
+    go : (f : Found) → Meaning size (shownBy t shape n) f → looksOf (shape .height) f ≡ (if fits o p (item number size) then 1 + height (o .stock) else 1)
+    go (At i) f =
+        let within : i < shape .places = omega (arith, f .inside, all) in
+        rw (first, found-at a 0 number (sound .index) r f within, lt-ltb i (opened p) (there a 0 number (sound .index) r f within), h)
+    go Nothing f =
+        let none : (k : ℕ) → k < shape .places → shownAt t shape n k < size = λ k l. f k (omega (arith, all)) in
+        let few : c .opened ≤ shape .places = omega (arith, sound .within, sound .fitted .enough) in
+        rw (first, none-at a 0 number (sound .index) r none few, le-ltb (opened p) (opened p) (omega arith))

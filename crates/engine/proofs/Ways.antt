@@ -10,7 +10,7 @@ use Rattle.packing.specs.declared.Outcome.the-variants.{Placed, Refused}
 use Rattle.packing.specs.declared.Command.the-variants.{Shelve}
 use Rattle.packing.specs.Bins.{Packing, stored}
 use Rattle.packing.specs.Placing.{into, refusing, binFor, decision, placed}
-use Rattle.packing.specs.Run.{item, told, answerTo, next}
+use Rattle.packing.specs.Run.{item, told, answerTo, next, looksTo}
 use Rattle.packing.proofs.Tests.{clash}
 use Rattle.packing.proofs.Decided.{goes-in, decides}
 use Rattle.packing.proofs.Reached.{opened-placed}
@@ -38,12 +38,13 @@ pub refused-so : (o : Opening) (left : ℕ) (p : Packing) (number size : ℕ) {r
 refused-so o left p number size e = ap (told o (placed o p (item number (stored o size)))) e
 
 -- Refused: the store stays.
-pub done-refused : {o : Opening} {left : ℕ} {shape : Shape} {w : Store} {number : ℕ} {command : Command} {reason : ItemReason} → Sound o shape w
-    → ((p : Packing) → Represents o w p → answerTo o left p number command ≡ Refused reason) → Done o left shape w number command (answering number (Refused reason)) w
-done-refused sound m = record {
+pub done-refused : {o : Opening} {left : ℕ} {shape : Shape} {w : Store} {number : ℕ} {command : Command} {reason : ItemReason} {looks : ℕ} → Sound o shape w
+    → ((p : Packing) → Represents o w p → answerTo o left p number command ≡ Refused reason) → ((p : Packing) → Represents o w p → looks ≡ looksTo o p number command)
+    → Done o left shape w number command (answering number (Refused reason)) looks w
+done-refused sound m l = record {
   sound = sound;
   numbered = refl;
-  model = λ p r. record { answered = sym (m p r); represents = rw (m p r) r };
+  model = λ p r. record { answered = sym (m p r); looked = l p r; represents = rw (m p r) r };
   refused = λ _ _. refl;
 }
 
@@ -53,19 +54,20 @@ noting notes number place size = set notes number ((place + 1) ∷ size ∷ [])
 
 -- Placed in a spot that is the model's: the item is entered in the ledger and noted, and then the row is shown. The bare size is not 0.
 module _ {o : Opening} {left : ℕ} {c : Counters} {bare n : ℕ} (some : 1 ≤ bare) (a : Aimed o c (stored o bare) n) {s : Spot} {shape : Shape} {t u : List ℕ} {ledger ledger′ notes : List (List ℕ)} {row : List ℕ}
-    (e : Entered ledger (s .place) (home n) (s .free) (aFor n) row ledger′) (d : Shown shape t (s .place) row u) (inside : s .place < places) (number : ℕ) where
+    (e : Entered ledger (s .place) (home n) (s .free) (aFor n) row ledger′) (d : Shown shape t (s .place) row u) (inside : s .place < places) (number looks : ℕ) where
   module _ {p : Packing} (r : Represents o (store t ledger notes c) p) (m : IsSpot o left p number (stored o bare) n s) where
     entry : IsEntry o p (item number (stored o bare)) (s .place) (home n) (s .free) (aFor n)
     entry = record { fits = a .fits; place-is = m .place-is; class-is = sym (m .class-is); free-is = m .free-is; a-is = a-more a number }
 
-    modelled : number < numbers → binIn (noteAt notes number) ≡ 0
-        → Modelled o left number (Shelve bare) (Placed (s .place + 1) (s .free)) (store u ledger′ (noting notes number (s .place) (stored o bare)) (accepting n (s .opened) (o .m) c)) p
-    modelled numbered new =
+    modelled : number < numbers → binIn (noteAt notes number) ≡ 0 → looks ≡ looksTo o p number (Shelve bare)
+        → Modelled o left number (Shelve bare) (Placed (s .place + 1) (s .free)) looks (store u ledger′ (noting notes number (s .place) (stored o bare)) (accepting n (s .opened) (o .m) c)) p
+    modelled numbered new looked =
         let i = item number (stored o bare) in
         let goes : decision o p i left bare ≡ into (binFor o p i) =
         decides o p i left bare _ (goes-in (record { some = some; within-capacity = a .fits; not-spent = m .in-stock })) in
         let bin : s .place + 1 ≡ binFor o p i = omega (arith, m .place-is) in
         record {
+          looked = looked;
           answered = rw (goes, free-left o p i, ← m .free-is) (ap (λ bin. Placed bin (s .free)) bin);
           represents =
               rw goes
@@ -85,24 +87,25 @@ module _ {o : Opening} {left : ℕ} {c : Counters} {bare n : ℕ} (some : 1 ≤ 
         ⊎-elim inl (λ same. inr (same ∙ m .class-is ∙ sym new)) (row-before (r .records) inside entry .class)
 
   pub done-placed : Ready o left shape number (store t ledger notes c) → Spotted o left shape (store t ledger notes c) number (stored o bare) n s
-      → Done o left shape (store t ledger notes c) number (Shelve bare) (answering number (Placed (s .place + 1) (s .free)))
+      → ((p : Packing) → Represents o (store t ledger notes c) p → looks ≡ looksTo o p number (Shelve bare))
+      → Done o left shape (store t ledger notes c) number (Shelve bare) (answering number (Placed (s .place + 1) (s .free))) looks
       (store u ledger′ (noting notes number (s .place) (stored o bare)) (accepting n (s .opened) (o .m) c))
-  done-placed ready w =
+  done-placed ready w looked =
       let sound = ready .sound in
       let then = sound .represents in
       let there = w .model (sound .packing) then in
       record {
         sound = record {
           index = rw (e .ledger-is) (indexes-set (sound .index) (omega (arith, then .records .whole)) (class-before then there) d);
-          stock = sound .stock;
+          fitted = sound .fitted;
           capacity = sound .capacity;
           within = w .stock;
           phase = phase-few a;
           b2 = refl;
           packing = next o left (sound .packing) number (Shelve bare);
-          represents = modelled then there (ready .numbered) (ready .new) .represents;
+          represents = modelled then there (ready .numbered) (ready .new) (looked (sound .packing) then) .represents;
         };
         numbered = refl;
-        model = λ p r. modelled r (w .model p r) (ready .numbered) (ready .new);
+        model = λ p r. modelled r (w .model p r) (ready .numbered) (ready .new) (looked p r);
         refused = λ reason e. clash (cc);
       }

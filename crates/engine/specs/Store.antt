@@ -5,6 +5,7 @@ use Prim.Native.Nat.{ℕ, _%_, _≤_, _<_}
 use Rattle.packing.specs.declared.Opening.{Opening}
 use Rattle.packing.specs.Bins.{Packing, empty, opened}
 use Rattle.tournament.specs.declared.Shape.{Shape}
+use Rattle.tournament.specs.Shapes.{Fitted}
 use Rattle.aim.specs.declared.Counters.{Counters}
 use Rattle.aim.specs.Aims.{b2Tree}
 use Rattle.ledger.specs.Notes.{numbers, noteAt, binIn, Noted}
@@ -32,7 +33,8 @@ pub record Represents (o : Opening) (s : Store) (p : Packing) : Type 0 where
 -- What the store is, whatever packing it represents; and it represents one.
 pub record Sound (o : Opening) (shape : Shape) (s : Store) : Type 0 where
   pub index : Indexes shape (s .trees) (s .ledger)
-  pub stock : o .stock ≤ shape .places
+  -- So the height is the h that "looks per placement" goes by.
+  pub fitted : Fitted (o .stock) shape
   pub capacity : o .capacity ≤ 16_777_216
   pub within : s .counters .opened ≤ o .stock
   pub phase : s .counters .phase < o .m

@@ -14,6 +14,8 @@ use tournament::Found;
 use tournament::ROW_WORDS;
 use tournament::STRIDE;
 use tournament::Shape;
+use tournament::looks;
+use tournament::looks::Looks;
 ghost use mathlib.Core.Path.{_≡_};
 ghost use Prim.Native.Nat.{_-_, _≤_, _<_};
 ghost use Rattle.packing.specs.declared.Command.the-variants.{Shelve};
@@ -21,13 +23,21 @@ ghost use Rattle.packing.specs.declared.Outcome.the-variants.{Refused};
 ghost use Rattle.packing.specs.Bins.{stored};
 ghost use Rattle.index.specs.Trees.{Forest};
 ghost use Rattle.engine.specs.Store.{store, Ready};
-ghost use Rattle.engine.specs.Spots.{spotFor};
+ghost use Rattle.engine.specs.Spots.{Offers};
 ghost use Rattle.engine.specs.Done.{giving, Done};
 
-// What a command comes to, and the counters after it.
+// What the commands of a production are answered by: the opening, the shape of the trees, and what is left of the stock for the production.
+pub struct Terms {
+    pub opening: Opening,
+    pub shape: Shape,
+    pub left: u32,
+}
+
+// What a command comes to, the counters after it, and the looks that it took.
 pub struct Answered {
     pub answer: Answer,
     pub next: Counters,
+    pub looks: Looks,
 }
 
 // Where an item goes: the place of its bin, the space left free there, and the bins opened then.
@@ -43,61 +53,71 @@ enum Offer {
     Spent,
 }
 
+// That, and the looks of the search.
+struct Offered {
+    offer: Offer,
+    looks: Looks,
+}
+
 // Where an item goes that is searched for in this tree: the lowest place with space for it, else a new bin.
-fn find_spot(
-    trees: &[u32; ROW_WORDS],
-    shape: Shape,
-    opened: u32,
-    opening: Opening,
-    left: u32,
-    tree: usize,
-    size: u32,
-) -> Offer
-    requires forest { ⌜ Forest shape (now trees) ⌝ }
+fn find_spot(trees: &[u32; ROW_WORDS], terms: Terms, opened: u32, tree: usize, size: u32) -> Offered
+    requires forest { ⌜ Forest (terms .shape) (now trees) ⌝ }
     requires tree { ⌜ tree < 5 ⌝ }
     requires some { ⌜ 1 ≤ size ⌝ }
-    requires fits { ⌜ size ≤ opening .capacity ⌝ }
-    ensures { λ r. ⌜ r ≡ spotFor opening left shape (now (trees .entry)) opened tree size ⌝ }
+    requires fits { ⌜ size ≤ terms .opening .capacity ⌝ }
+    ensures { λ r. ⌜ Offers terms (now (trees .entry)) opened tree size r ⌝ }
 {
-    let capacity = opening.capacity;
+    let shape = terms.shape;
     let base = STRIDE * tree;
-    let found = tournament::search(trees, base, shape, size);
+    let searched = tournament::search(trees, base, shape, size);
+    let found = searched.found;
+    let looks = searched.looks;
     match found {
         Found::At(place) => {
             let space = tournament::value(trees, base, shape, place);
             let free = space - size;
-            Offer::Here(Spot {
+            let offer = Offer::Here(Spot {
                 place,
                 free,
                 opened,
-            })
+            });
+            Offered { offer, looks }
         }
         Found::Nothing => {
-            if left <= opened {
-                return Offer::Spent;
+            if terms.left <= opened {
+                let offer = Offer::Spent;
+                return Offered { offer, looks };
             }
             let place = opened as usize;
-            let free = capacity - size;
+            let free = terms.opening.capacity - size;
             let opened = opened + 1;
-            Offer::Here(Spot {
+            let offer = Offer::Here(Spot {
                 place,
                 free,
                 opened,
-            })
+            });
+            Offered { offer, looks }
         }
     }
 }
 
-// "An answer joins the command's number with placed, counted or refused." A refused command leaves the counters as they were.
-pub fn refuse(number: usize, reason: ItemReason, counters: Counters) -> Answered
-    ensures { λ r. ⌜ r ≡ giving number (Refused reason) counters ⌝ }
+// "An answer joins the command's number with placed, counted or refused"; beside it the counters after the command, and the looks that it took.
+pub fn give(number: usize, outcome: Outcome, next: Counters, looks: Looks) -> Answered
+    ensures { λ r. ⌜ r ≡ giving number outcome next looks ⌝ }
 {
-    let answer = Answer {
-        number,
-        outcome: Outcome::Refused(reason),
-    };
-    let next = counters;
-    Answered { answer, next }
+    let answer = Answer { number, outcome };
+    Answered {
+        answer,
+        next,
+        looks,
+    }
+}
+
+// A refused command leaves the counters as they were.
+pub fn refuse(number: usize, reason: ItemReason, counters: Counters, looks: Looks) -> Answered
+    ensures { λ r. ⌜ r ≡ giving number (Refused reason) counters looks ⌝ }
+{
+    give(number, Outcome::Refused(reason), counters, looks)
 }
 
 // An item that a bin can hold with its trailer: to the first permitted bin with space, else to a new one, else refused. All goes by the stored size.
@@ -105,23 +125,24 @@ fn place_fitting(
     trees: &mut [u32; ROW_WORDS],
     ledger: &mut [[u32; COLUMNS]; BINS],
     notes: &mut [[u32; NOTE_WORDS]; NUMBERS],
-    shape: Shape,
+    terms: Terms,
     counters: Counters,
-    opening: Opening,
-    left: u32,
     number: usize,
     size: u32,
 ) -> Answered
-    requires ready { ⌜ Ready opening left shape number (store (now trees) (now ledger) (now notes) counters) ⌝ }
+    requires ready { ⌜ Ready (terms .opening) (terms .left) (terms .shape) number (store (now trees) (now ledger) (now notes) counters) ⌝ }
     requires some { ⌜ 1 ≤ size ⌝ }
-    requires fits { ⌜ stored opening size ≤ opening .capacity ⌝ }
-    ensures { λ r. ⌜ Done opening left shape (store (now (trees .entry)) (now (ledger .entry)) (now (notes .entry)) counters) number (Shelve size) (r .answer) (store (now (trees .exit)) (now (ledger .exit)) (now (notes .exit)) (r .next)) ⌝ }
+    requires fits { ⌜ stored (terms .opening) size ≤ terms .opening .capacity ⌝ }
+    ensures { λ r. ⌜ Done (terms .opening) (terms .left) (terms .shape) (store (now (trees .entry)) (now (ledger .entry)) (now (notes .entry)) counters) number (Shelve size) (r .answer) (r .looks .count) (store (now (trees .exit)) (now (ledger .exit)) (now (notes .exit)) (r .next)) ⌝ }
 {
+    let opening = terms.opening;
     let stored = size + opening.trailer as u32;
     let tree = aim::tree_for(stored, opening.capacity, counters.b2);
-    let offer = find_spot(trees, shape, counters.opened, opening, left, tree, stored);
+    let offered = find_spot(trees, terms, counters.opened, tree, stored);
+    let offer = offered.offer;
+    let looks = offered.looks;
     let Offer::Here(spot) = offer else {
-        return refuse(number, ItemReason::StockSpent, counters);
+        return refuse(number, ItemReason::StockSpent, counters, looks);
     };
     let class = aim::home_of(tree) as u32;
     let a = aim::a_for(tree);
@@ -129,17 +150,14 @@ fn place_fitting(
     let next = aim::accept(counters, tree, spot.opened, opening.m);
     let bin = (place + 1) as u16;
     let free = spot.free;
-    let answer = Answer {
-        number,
-        outcome: Outcome::Placed { bin, free },
-    };
+    let outcome = Outcome::Placed { bin, free };
     let row = ledger::enter(ledger, place, class, free, a);
     let lies = bin as u32;
     let note = [lies, stored];
     notes[number] = note;
     // Last: how far a store climbs is not foreseen by the processor, and nothing but the next command is to wait for it.
-    index::show(trees, shape, place, row);
-    Answered { answer, next }
+    index::show(trees, terms.shape, place, row);
+    give(number, outcome, next, looks)
 }
 
 // The largest bare size that a bin can hold with its trailer; 0 if there is none.
@@ -161,32 +179,20 @@ pub fn place(
     trees: &mut [u32; ROW_WORDS],
     ledger: &mut [[u32; COLUMNS]; BINS],
     notes: &mut [[u32; NOTE_WORDS]; NUMBERS],
-    shape: Shape,
+    terms: Terms,
     counters: Counters,
-    opening: Opening,
-    left: u32,
     number: usize,
     size: u32,
 ) -> Answered
-    requires { ⌜ Ready opening left shape number (store (now trees) (now ledger) (now notes) counters) ⌝ }
-    ensures { λ r. ⌜ Done opening left shape (store (now (trees .entry)) (now (ledger .entry)) (now (notes .entry)) counters) number (Shelve size) (r .answer) (store (now (trees .exit)) (now (ledger .exit)) (now (notes .exit)) (r .next)) ⌝ }
+    requires { ⌜ Ready (terms .opening) (terms .left) (terms .shape) number (store (now trees) (now ledger) (now notes) counters) ⌝ }
+    ensures { λ r. ⌜ Done (terms .opening) (terms .left) (terms .shape) (store (now (trees .entry)) (now (ledger .entry)) (now (notes .entry)) counters) number (Shelve size) (r .answer) (r .looks .count) (store (now (trees .exit)) (now (ledger .exit)) (now (notes .exit)) (r .next)) ⌝ }
 {
-    let most = largest(opening);
+    let most = largest(terms.opening);
     if limits::is_within(1, most, size) {
-        return place_fitting(
-            trees,
-            ledger,
-            notes,
-            shape,
-            counters,
-            opening,
-            left,
-            number,
-            size,
-        );
+        return place_fitting(trees, ledger, notes, terms, counters, number, size);
     }
     if size == 0 {
-        return refuse(number, ItemReason::SizeZero, counters);
+        return refuse(number, ItemReason::SizeZero, counters, looks::NONE);
     }
-    refuse(number, ItemReason::AboveCapacity, counters)
+    refuse(number, ItemReason::AboveCapacity, counters, looks::NONE)
 }

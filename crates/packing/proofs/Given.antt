@@ -79,9 +79,9 @@ pub plan-number-back : (r s : PlanReason) → planNumber r ≡ planNumber s → 
 plan-number-back r s e = sym (plan-reason r) ∙ ap planReason e ∙ plan-reason s
 
 pub stream-gives-back : StreamGivesBack
-stream-gives-back (StreamResult.Accepted items opened) (StreamResult.Accepted items′ opened′) e = cc
-stream-gives-back (StreamResult.Accepted items opened) (StreamResult.Refused reason offset) e = clash (cc)
-stream-gives-back (StreamResult.Refused reason offset) (StreamResult.Accepted items opened) e = clash (cc)
+stream-gives-back (StreamResult.Accepted items opened looks) (StreamResult.Accepted items′ opened′ looks′) e = cc
+stream-gives-back (StreamResult.Accepted items opened looks) (StreamResult.Refused reason offset) e = clash (cc)
+stream-gives-back (StreamResult.Refused reason offset) (StreamResult.Accepted items opened looks) e = clash (cc)
 stream-gives-back (StreamResult.Refused reason offset) (StreamResult.Refused reason′ offset′) e =
     let same : streamNumber reason ≡ streamNumber reason′ = cc in cc (stream-number-back reason reason′ same)
 

@@ -18,6 +18,7 @@ pub mod Shelved
 pub mod Holding
 pub mod Counting
 pub mod Running
+pub mod Looks
 pub mod Classes
 pub mod Lowest
 pub mod FreeUnits

@@ -121,21 +121,29 @@ module _ (o : Opening) where
   pub run-prefix : (j : ℕ) (cs : List Command) → take j (run o cs) ≡ run o (take j cs)
   run-prefix j cs = prefix-from j 1 emptyShelf cs
 
-  -- What the command at a place comes to, by the shelf that those before it left.
-  answer-from : (j n e : ℕ) (s : Shelf) (cs : List Command) (c : Command) (later : List Command) → e ≡ j + n → drop j cs ≡ c ∷ later
-      → take 1 (drop j (map (λ t. t .outcome) (runFrom o s n cs))) ≡ answerOn o (shelfFrom o s n (take j cs)) e c ∷ []
+  -- The step of the command at a place, on the shelf that those before it left.
+  abbrev stepOn : Shelf → (number : ℕ) → Command → Step
+  stepOn s n c = record { number = n; production = s .current; command = c; before = own s; outcome = answerOn o s n c }
+
+  step-from : (j n e : ℕ) (s : Shelf) (cs : List Command) (c : Command) (later : List Command) → e ≡ j + n → drop j cs ≡ c ∷ later
+      → take 1 (drop j (runFrom o s n cs)) ≡ stepOn (shelfFrom o s n (take j cs)) e c ∷ []
   unfolding runFrom shelfFrom
-  answer-from zero n e s [] c later h d = clash (cc)
-  answer-from zero n e s (b ∷ cs) c later h d =
+  step-from zero n e s [] c later h d = clash (cc)
+  step-from zero n e s (b ∷ cs) c later h d =
       let same : n ≡ e = omega arith in
       let here : b ≡ c = cc in
       rw (same, here)
-  answer-from (suc j) n e s [] c later h d = clash (cc)
-  answer-from (suc j) n e s (b ∷ cs) c later h d = answer-from j (suc n) e (nextShelf o s n b) cs c later (omega arith) d
+  step-from (suc j) n e s [] c later h d = clash (cc)
+  step-from (suc j) n e s (b ∷ cs) c later h d = step-from j (suc n) e (nextShelf o s n b) cs c later (omega arith) d
+
+  -- What is read off it.
+  pub told-at : {A : Type 0} (f : Step → A) (j : ℕ) (cs : List Command) (c : Command) (later : List Command) → drop j cs ≡ c ∷ later
+      → take 1 (drop j (map f (run o cs))) ≡ f (stepOn (shelf o (take j cs)) (suc j) c) ∷ []
+  told-at f j cs c later d = rw (drop-mapped f j (run o cs), take-mapped f 1 (drop j (run o cs)), step-from j 1 (suc j) emptyShelf cs c later (omega arith) d)
 
   pub answer-at : (j : ℕ) (cs : List Command) (c : Command) (later : List Command) → drop j cs ≡ c ∷ later
       → take 1 (drop j (outcomes o cs)) ≡ answerOn o (shelf o (take j cs)) (suc j) c ∷ []
-  answer-at j cs c later d = answer-from j 1 (suc j) emptyShelf cs c later (omega arith) d
+  answer-at j cs c later d = told-at (λ t. t .outcome) j cs c later d
 
   -- The shelf after the command at a place.
   shelf-from : (j n e : ℕ) (s : Shelf) (cs : List Command) (c : Command) (later : List Command) → e ≡ j + n → drop j cs ≡ c ∷ later

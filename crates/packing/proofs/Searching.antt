@@ -1,7 +1,8 @@
 -- Searches in lists: what passes a test in one that is appended, mapped, reversed, or kept by another test.
 use mathlib.Core.Path.{_≡_, refl, ap, _∙_}
+use mathlib.Core.Logic.{⊎-elim}
 use mathlib.Core.Bool.{Bool, true, false, not, _&&_, _||_, true≢false, false≢true}
-use mathlib.Core.List.{List, [], _∷_, _++_, map, reverseAux, List·Memᴰ, List·Memᴰ·head, List·Memᴰ·tail}
+use mathlib.Core.List.{List, [], _∷_, _++_, map, reverseAux, List·Memᴰ, List·Memᴰ·head, List·Memᴰ·tail, List·Memᴰ·not-nil, List·Memᴰ·cases-cons}
 use Rattle.packing.specs.Prelude.{if_then_else_, any, keep}
 
 module _ {A : Type 0} where
@@ -31,6 +32,16 @@ module _ {A : Type 0} (test : A → Bool) where
       go : (t : Bool) → test a ≡ t → (t || any test l) ≡ true → (any test l ≡ true → Found l) → Found (a ∷ l)
       go true q e r = record { member = a; among = List·Memᴰ·head refl; passes = q }
       go false q e r = let f = r e in record { member = f .member; among = List·Memᴰ·tail (f .among); passes = f .passes }
+
+  -- And where one does, some do.
+  pub any-member : (l : List A) (a : A) → List·Memᴰ a l → test a ≡ true → any test l ≡ true
+  unfolding any
+  any-member [] a m e = absurd (List·Memᴰ·not-nil m)
+  any-member (b ∷ l) a m e = ⊎-elim (λ same. rw (← same, e)) (λ later. rw (any-member l a later e) (either (test b))) (List·Memᴰ·cases-cons m)
+    where
+      either : (t : Bool) → (t || true) ≡ true
+      either true = refl
+      either false = refl
 
   pub any-append : (l r : List A) → any test (l ++ r) ≡ (any test l || any test r)
   unfolding any

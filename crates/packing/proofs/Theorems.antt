@@ -23,6 +23,7 @@ pub use Rattle.packing.proofs.SizeClasses.{class-bounds, bounds-class}
 pub use Rattle.packing.proofs.Lowest.{lowest-permitted}
 pub use Rattle.packing.proofs.Stock.{refused-exactly}
 pub use Rattle.packing.proofs.FreeUnits.{free-units}
+pub use Rattle.packing.proofs.Looks.{looks-taken}
 pub use Rattle.packing.proofs.Shelved.{one-list}
 pub use Rattle.packing.proofs.Numbers.{opened-is}
 pub use Rattle.packing.proofs.Accepted.{accepted-whole}

@@ -1,6 +1,6 @@
 -- What is promised of the model, as statements; ../proofs shows each of every opening and every list of commands. Demand 3 and the plan of a packing's
 -- own answers are stated in the crate worst_case.
-use Rattle.packing.specs.Prelude.{ℕ, suc, _+_, _*_, _≤_, _<_, min, _≡_, _↔_, Bool, true, false, _||_}
+use Rattle.packing.specs.Prelude.{ℕ, suc, _+_, _*_, _^_, _≤_, _<_, min, _≡_, _↔_, _⊎_, Bool, true, false, _||_}
 use Rattle.packing.specs.Prelude.{List, [], _∷_, _++_, map, zipWith, flatten, reverse, length, take, drop, List·Memᴰ, total, any, keep, _=?_}
 use Rattle.packing.specs.Prelude.{Opening, SizeClass, A, B1, B2, X, Production, First, Second, Command, Shelve, Count, Withdraw, Switch, Outcome, Placed, Withdrawn, Switched, Refused, ItemReason, SizeZero, AboveCapacity, StockSpent, NotShelved}
 use Rattle.packing.specs.Prelude.{StreamResult, PlanResult}
@@ -9,10 +9,11 @@ use Rattle.packing.specs.Refusals.{isRefused, isPlaced, isWithdrawn, bin
 use Rattle.packing.specs.SizeClasses.{sizeClass, countB2}
 use Rattle.packing.specs.Bins.{Item, Bin, Packing, opened, load, itemsOf, kind, stored}
 use Rattle.packing.specs.Placing.{permitted, target, takes}
-use Rattle.packing.specs.Shelves.{Shelf, own, isSwitch}
+use Rattle.packing.specs.Looks.{height}
+use Rattle.packing.specs.Shelves.{Shelf, own, isShelve, isSwitch}
 use Rattle.packing.specs.Limits.{openingGood, mostCommands}
 use Rattle.packing.specs.Streams.{isOpening, firstByte, openingLength, openingOf, behindOpening, accepted, commands, verdict}
-use Rattle.packing.specs.Run.{item, Step, answerOn, nextShelf, outcomes, answers, current, steps, placements, stillShelved, packing, result}
+use Rattle.packing.specs.Run.{item, Step, answerOn, nextShelf, outcomes, answers, looksTaken, mostLooks, current, steps, placements, stillShelved, packing, result}
 use Rattle.packing.specs.Counting.{stockPlaces, walk}
 use Rattle.packing.specs.Compared.{acceptedSizes, numberOpened, noneOut, shelfPlan, shelvedSizes, sizesIn}
 
@@ -56,6 +57,17 @@ pub record Lowest (o : Opening) (p : Packing) (i : Item) (bin : ℕ) : Type 0 wh
   pub at-most-new : bin ≤ suc (opened p)
   pub none-lower : (b : Bin) → List·Memᴰ b (take lower (p .bins)) → takes o p i b ≡ false
   pub takes-it : (b : Bin) (later : List Bin) → drop lower (p .bins) ≡ b ∷ later → takes o p i b ≡ true
+
+-- A bin of the packing takes the item.
+pub record Taker (o : Opening) (p : Packing) (i : Item) : Type 0 where
+  pub bin : Bin
+  pub among : List·Memᴰ bin (p .bins)
+  pub takes-it : takes o p i bin ≡ true
+
+-- h is "the least number with 2 to the power h at least the stock".
+pub record IsHeight (stock h : ℕ) : Type 0 where
+  pub enough : stock ≤ 2 ^ h
+  pub least : (k : ℕ) → stock ≤ 2 ^ k → h ≤ k
 
 -- A step shelved the item of this number in this bin.
 pub record ShelvedIn (ts : List Step) (number bin : ℕ) : Type 0 where
@@ -155,8 +167,30 @@ module _ (o : Opening) (cs : List Command) where
     pub answered : (j : ℕ) (later : List Command) → drop j cs ≡ Count ∷ later
         → take 1 (drop j (map word (outcomes o cs))) ≡ numberOpened o (current o (take j cs)) (take j cs) ∷ []
     pub returned : streamGives (result (accepted o cs))
-        ≡ figures ((length (shelvedSizes o First cs) + length (shelvedSizes o Second cs)) ∷ (numberOpened o First cs + numberOpened o Second cs) ∷ [])
+        ≡ figures ((length (shelvedSizes o First cs) + length (shelvedSizes o Second cs)) ∷ (numberOpened o First cs + numberOpened o Second cs) ∷ mostLooks o cs ∷ [])
     pub to-stock : numberOpened o First cs + numberOpened o Second cs ≤ o .stock
+
+  -- A bin that is on the shelf of its production when command j + 1 comes takes the item of this size.
+  abbrev pub Fitting : (j size : ℕ) → Type 0
+  Fitting j size = Taker o (packing o (current o (take j cs)) (take j cs)) (item (suc j) (stored o size))
+
+  -- The looks of each command, and the largest.
+  pub record Looks : Type 0 where
+    pub height-is : IsHeight (o .stock) (height (o .stock))
+    -- "Every master that passes the checks before 10 makes exactly one search, of 1 look if nothing fits and of 1 + h otherwise."
+    pub nothing-fits : (j size : ℕ) (later : List Command) → drop j cs ≡ Shelve size ∷ later → 1 ≤ size → size + o .trailer ≤ o .capacity
+        → (Fitting j size → ⊥) → take 1 (drop j (looksTaken o cs)) ≡ 1 ∷ []
+    pub fits : (j size : ℕ) (later : List Command) → drop j cs ≡ Shelve size ∷ later → 1 ≤ size → size + o .trailer ≤ o .capacity
+        → Fitting j size → take 1 (drop j (looksTaken o cs)) ≡ (1 + height (o .stock)) ∷ []
+    -- One that does not pass them makes none, and no other command does.
+    pub not-searched : (j size : ℕ) (later : List Command) → drop j cs ≡ Shelve size ∷ later → (size ≡ 0) ⊎ (o .capacity < size + o .trailer)
+        → take 1 (drop j (looksTaken o cs)) ≡ 0 ∷ []
+    pub others : (j : ℕ) (c : Command) (later : List Command) → drop j cs ≡ c ∷ later → isShelve c ≡ false → take 1 (drop j (looksTaken o cs)) ≡ 0 ∷ []
+    -- "No placement takes more than 1 + h looks."
+    pub at-most : (n : ℕ) → List·Memᴰ n (looksTaken o cs) → n ≤ 1 + height (o .stock)
+    -- The figure returned is "the largest over the stream, 0 if no search was made".
+    pub none-larger : (n : ℕ) → List·Memᴰ n (looksTaken o cs) → n ≤ mostLooks o cs
+    pub one-of-them : 1 ≤ mostLooks o cs → List·Memᴰ (mostLooks o cs) (looksTaken o cs)
 
   -- "A stream starts in 0"; 05 "makes the commands after it belong to that production", and "its answer is that byte"; after any other command the same
   -- production is current. And a command leaves the packing of the other production as it is.

@@ -6,6 +6,7 @@ pub mod Refusals
 pub mod SizeClasses
 pub mod Bins
 pub mod Placing
+pub mod Looks
 pub mod Withdrawing
 pub mod Shelves
 pub mod Streams

@@ -1,7 +1,7 @@
 -- The words that the model is written in: the library's, the types shared with the code, tests on numbers, and four functions on lists.
-pub use Prim.Native.Nat.{ℕ, zero, suc, _+_, _-_, _*_, _%_, _≤_, _<_, min, max}
+pub use Prim.Native.Nat.{ℕ, zero, suc, _+_, _-_, _*_, _%_, _^_, _≤_, _<_, min, max}
 pub use mathlib.Core.Path.{_≡_, refl}
-pub use mathlib.Core.Logic.{_↔_}
+pub use mathlib.Core.Logic.{_↔_, _⊎_}
 pub use mathlib.Core.Bool.{Bool, true, false, not, _&&_, _||_}
 pub use mathlib.Core.Option.{Option, none, some}
 pub use mathlib.Core.List.{List, [], _∷_, _++_, map, foldl, reverse, List·Memᴰ}

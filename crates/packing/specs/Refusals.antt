@@ -100,9 +100,9 @@ pub data Returned : Type 0 where
   refusal : (number place : ℕ) → Returned
 
 -- "An accepted stream returns the masters accepted and the cartridges opened": of the masters "those returned … are of masters still shelved", and they
--- "total both" productions.
+-- "total both" productions; the last figure is the largest looks.
 abbrev pub streamGives : StreamResult → Returned
-streamGives (StreamResult.Accepted items opened) = figures (items ∷ opened ∷ [])
+streamGives (StreamResult.Accepted items opened looks) = figures (items ∷ opened ∷ looks ∷ [])
 streamGives (StreamResult.Refused reason offset) = refusal (streamNumber reason) offset
 
 -- "The answer is passed alone, without number or place."

@@ -1,11 +1,12 @@
 -- What an accepted stream does: each command gets the shelf that the one before it left, the first the empty one, and works on its production's packing.
-use Rattle.packing.specs.Prelude.{ℕ, suc, _+_, true, false, not, List, [], _∷_, _++_, map, foldl, flatten, length, drop, keep, if_then_else_}
+use Rattle.packing.specs.Prelude.{ℕ, suc, _+_, true, false, not, List, [], _∷_, _++_, map, foldl, flatten, length, drop, keep, greatest, if_then_else_}
 use Rattle.packing.specs.Prelude.{Opening, Production, First, Second, Command, Shelve, Count, Withdraw, Switch}
 use Rattle.packing.specs.Prelude.{Outcome, Placed, Counted, Withdrawn, Switched, Refused, Answer, Entry, StreamResult}
 use Rattle.packing.specs.Productions.{isSame}
 use Rattle.packing.specs.Refusals.{isRefused}
 use Rattle.packing.specs.Bins.{Item, Packing, opened, freeOn, stored}
 use Rattle.packing.specs.Placing.{Decision, into, refusing, decision, placed}
+use Rattle.packing.specs.Looks.{looks}
 use Rattle.packing.specs.Withdrawing.{isNamed, without, withdrawal}
 use Rattle.packing.specs.Shelves.{Shelf, emptyShelf, of, own, stockLeft, putBack, belonging}
 use Rattle.packing.specs.Streams.{Read, accepted, refused}
@@ -45,6 +46,13 @@ module _ (o : Opening) where
   -- A refused command changes nothing: loads, classes and the B2 count are as they were.
   abbrev pub next : (left : ℕ) → Packing → (number : ℕ) → Command → Packing
   next left p n c = if isRefused (answerTo left p n c) then p else done p n c
+
+  -- The looks that a command takes: only one that shelves an item makes a search.
+  abbrev pub looksTo : Packing → (number : ℕ) → Command → ℕ
+  looksTo p n (Shelve s) = looks o p (item n (stored o s)) s
+  looksTo p n Count = 0
+  looksTo p n (Withdraw named) = 0
+  looksTo p n (Switch r) = 0
 
   -- On the shelf a command is answered by its production, and leaves the other as it is.
   abbrev pub answerOn : Shelf → (number : ℕ) → Command → Outcome
@@ -119,7 +127,8 @@ module _ (o : Opening) where
   abbrev pub shelvedBy : List Step → List Shelved → List Shelved
   shelvedBy ts on = foldl (λ before t. shelving (t .number) (t .command) (t .outcome) before) on ts
 
--- After the commands cs: the run, and what is read off it: the answers. And the shelf, with the production that the next command belongs to.
+-- After the commands cs: the run, and what is read off it: the answers, and the looks of each command. And the shelf, with the production that the next
+-- command belongs to.
 module _ (o : Opening) (cs : List Command) where
   abbrev pub run : List Step
   run = runFrom o emptyShelf 1 cs
@@ -129,6 +138,13 @@ module _ (o : Opening) (cs : List Command) where
 
   abbrev pub answers : List Answer
   answers = map answerOf run
+
+  abbrev pub looksTaken : List ℕ
+  looksTaken = map (λ t. looksTo o (t .before) (t .number) (t .command)) run
+
+  -- "The largest over the stream, 0 if no search was made": over both productions.
+  abbrev pub mostLooks : ℕ
+  mostLooks = greatest looksTaken
 
   abbrev pub shelf : Shelf
   shelf = shelfFrom o emptyShelf 1 cs
@@ -150,12 +166,13 @@ module _ (o : Opening) (q : Production) (cs : List Command) where
   abbrev pub packing : Packing
   packing = of q (shelf o cs)
 
--- What the call returns: the items still shelved and the bins opened, of both productions, or the refusal.
+-- What the call returns: the items still shelved and the bins opened, of both productions, and the largest looks; or the refusal.
 abbrev pub result : Read → StreamResult
 result (accepted o cs) =
     StreamResult.Accepted
     (length (stillShelved o First cs) + length (stillShelved o Second cs))
     (opened (packing o First cs) + opened (packing o Second cs))
+    (mostLooks o cs)
 result (refused reason offset) = StreamResult.Refused reason offset
 
 -- A row at exit, by what it tells of an outcome: the answer row by `word`, the row of free units by `freeUnits`. Word n is of command n, and words past

@@ -29,6 +29,13 @@ abbrev pub putBack : (current : Production) → Packing → Shelf → (next : Pr
 putBack First p s next = record { first = p; second = s .second; current = next }
 putBack Second p s next = record { first = s .first; second = p; current = next }
 
+-- Command 02.
+abbrev pub isShelve : Command → Bool
+isShelve (Shelve size) = true
+isShelve Count = false
+isShelve (Withdraw named) = false
+isShelve (Switch r) = false
+
 -- Command 05.
 abbrev pub isSwitch : Command → Bool
 isSwitch (Shelve size) = false

@@ -5,9 +5,10 @@ use Rattle.packing.specs.Prelude.{CutShort, SecondOpening, TooFewWords, 
 use Rattle.packing.specs.Refusals.{word, freeUnits}
 use Rattle.packing.specs.SizeClasses.{sizeClass}
 use Rattle.packing.specs.Placing.{firstFit, put, decision, placed}
+use Rattle.packing.specs.Looks.{heightFrom, height, looks}
 use Rattle.packing.specs.Streams.{widths, lookup, commands, read, verdict}
 use Rattle.packing.specs.Withdrawing.{without, withdrawal}
-use Rattle.packing.specs.Run.{runFrom, shelfFrom, stepsOf, packing, outcomes, result, rowAtExit}
+use Rattle.packing.specs.Run.{runFrom, shelfFrom, stepsOf, packing, outcomes, looksTaken, result, rowAtExit}
 use Rattle.packing.specs.Counting.{stockPlaces, walk}
 use Rattle.packing.specs.Plans.{planOf, limits, fault, entries, check}
 use Rattle.packing.specs.Compared.{numberOpened, shelfPlan, shelvedSizes, used}
@@ -48,6 +49,10 @@ answered stock cs = bothRows (opening 60 stock) cs
 
 abbrev pub storing : (capacity trailer : ℕ) → List ℕ → Finding
 storing c trailer sizes = bothRows (trailed c trailer) (map Shelve sizes)
+
+-- The looks of each of these commands at capacity 60.
+abbrev pub looked : (stock : ℕ) → List Command → Finding
+looked stock cs = words (looksTaken (opening 60 stock) cs)
 
 -- What a count hands back after these sizes at capacity 60: the figure, and the places read.
 abbrev pub counted : (stock : ℕ) → List ℕ → Finding
@@ -168,8 +173,18 @@ table =
     answered 1 (Shelve 60 ∷ Withdraw 1 ∷ Switch Second ∷ Shelve 60 ∷ Switch First ∷ Shelve 60 ∷ [])
     is words (1 ∷ 1 ∷ 1 ∷ 32_778 ∷ 0 ∷ 1 ∷ 0 ∷ 60 ∷ 0 ∷ 0 ∷ 0 ∷ 0 ∷ []) ∷
     -- What is returned is of both: the items still shelved, and the bins opened.
-    returns (0x02 ∷ 0 ∷ 0 ∷ 0 ∷ 60 ∷ 0x05 ∷ 1 ∷ 0x02 ∷ 0 ∷ 0 ∷ 0 ∷ 20 ∷ 0x02 ∷ 0 ∷ 0 ∷ 0 ∷ 20 ∷ 0x02 ∷ 0 ∷ 0 ∷ 0 ∷ 60 ∷ []) is returned (StreamResult.Accepted 4 3) ∷
-    returns (0x02 ∷ 0 ∷ 0 ∷ 0 ∷ 60 ∷ 0x05 ∷ 1 ∷ 0x02 ∷ 0 ∷ 0 ∷ 0 ∷ 20 ∷ 0x04 ∷ 0 ∷ 3 ∷ []) is returned (StreamResult.Accepted 1 2) ∷
+    returns (0x02 ∷ 0 ∷ 0 ∷ 0 ∷ 60 ∷ 0x05 ∷ 1 ∷ 0x02 ∷ 0 ∷ 0 ∷ 0 ∷ 20 ∷ 0x02 ∷ 0 ∷ 0 ∷ 0 ∷ 20 ∷ 0x02 ∷ 0 ∷ 0 ∷ 0 ∷ 60 ∷ []) is returned (StreamResult.Accepted 4 3 3) ∷
+    returns (0x02 ∷ 0 ∷ 0 ∷ 0 ∷ 60 ∷ 0x05 ∷ 1 ∷ 0x02 ∷ 0 ∷ 0 ∷ 0 ∷ 20 ∷ 0x04 ∷ 0 ∷ 3 ∷ []) is returned (StreamResult.Accepted 1 2 1) ∷
+    -- Looks: 2 to the power h is at least the stock.
+    words (map height (1 ∷ 2 ∷ 3 ∷ 4 ∷ 5 ∷ 8 ∷ 9 ∷ 256 ∷ 257 ∷ 511 ∷ 512 ∷ [])) is words (0 ∷ 1 ∷ 2 ∷ 2 ∷ 3 ∷ 3 ∷ 4 ∷ 8 ∷ 9 ∷ 9 ∷ 9 ∷ []) ∷
+    -- None for what is refused before 10, a count, a withdrawal and a switch; 1 where a new bin is called for, whether there is one or not; 1 + h where an
+    -- opened bin of the production takes the item, though the other one has opened all the rest of the stock.
+    looked 4 (Shelve 0 ∷ Shelve 61 ∷ Count ∷ Shelve 31 ∷ Shelve 20 ∷ Shelve 20 ∷ Withdraw 4 ∷ Shelve 60 ∷ []) is words (0 ∷ 0 ∷ 0 ∷ 1 ∷ 1 ∷ 3 ∷ 0 ∷ 3 ∷ []) ∷
+    looked 4 (map Shelve (60 ∷ 60 ∷ 60 ∷ []) ++ Switch Second ∷ map Shelve (60 ∷ 60 ∷ 20 ∷ []) ++ Withdraw 5 ∷ Shelve 40 ∷ []) is words (1 ∷ 1 ∷ 1 ∷ 0 ∷ 1 ∷ 1 ∷ 1 ∷ 0 ∷ 3 ∷ []) ∷
+    looked 1 (map Shelve (60 ∷ 60 ∷ []) ++ Withdraw 1 ∷ Shelve 60 ∷ []) is words (1 ∷ 1 ∷ 0 ∷ 1 ∷ []) ∷
+    -- The largest is returned, not the last and not the sum; 0 where there was no search.
+    returns (0x02 ∷ 0 ∷ 0 ∷ 0 ∷ 20 ∷ 0x02 ∷ 0 ∷ 0 ∷ 0 ∷ 20 ∷ 0x02 ∷ 0 ∷ 0 ∷ 0 ∷ 60 ∷ 0x03 ∷ []) is returned (StreamResult.Accepted 3 2 3) ∷
+    returns (0x02 ∷ 0 ∷ 0 ∷ 0 ∷ 61 ∷ 0x03 ∷ 0x04 ∷ 0 ∷ 1 ∷ []) is returned (StreamResult.Accepted 0 0 0) ∷
     -- 05 takes the bytes 0 and 1, and a byte above is refusal 18 where the command stands, whatever good ones came before it.
     words (rowAtExit word (verdict (behind (0x05 ∷ 1 ∷ 0x05 ∷ 0 ∷ [])) 2) (7 ∷ 7 ∷ [])) is words (1 ∷ 0 ∷ []) ∷
     returns (0x05 ∷ 2 ∷ []) is returned (StreamResult.Refused NoProduction 8) ∷
@@ -178,11 +193,11 @@ table =
     returns (0x05 ∷ []) is returned (StreamResult.Refused CutShort 8) ∷
     returned (result (verdict (behind (0x05 ∷ 2 ∷ [])) 0)) is returned (StreamResult.Refused NoProduction 8) ∷
     -- The sample stream, with two words more in each row than it has commands.
-    returned (result (verdict sample 12)) is returned (StreamResult.Accepted 8 4) ∷
+    returned (result (verdict sample 12)) is returned (StreamResult.Accepted 8 4 3) ∷
     words (rowAtExit word (verdict sample 12) (replicate 12 7)) is words (1 ∷ 2 ∷ 2 ∷ 3 ∷ 3 ∷ 4 ∷ 1 ∷ 32_778 ∷ 4 ∷ 4 ∷ 7 ∷ 7 ∷ []) ∷
     words (rowAtExit freeUnits (verdict sample 12) (replicate 12 7)) is words (25 ∷ 38 ∷ 16 ∷ 38 ∷ 16 ∷ 38 ∷ 3 ∷ 0 ∷ 0 ∷ 16 ∷ 7 ∷ 7 ∷ []) ∷
     []
 
 pub worked-shelves : map (λ c. c .0) table ≡ map (λ c. c .1) table
-unfolding table sizeClass total greatest any keep firstFit put decision placed without withdrawal runFrom shelfFrom stepsOf stockPlaces walk zipWith flatten used limits fault entries check widths lookup commands read
+unfolding table sizeClass total greatest any keep firstFit put decision placed heightFrom looks without withdrawal runFrom shelfFrom stepsOf stockPlaces walk zipWith flatten used limits fault entries check widths lookup commands read
 worked-shelves = refl

@@ -96,10 +96,17 @@ pub enum StreamReason {
     NoProduction,
 }
 
-// What the stream call returns: items still shelved and bins opened, of both productions, or a refusal.
+// What the stream call returns: items still shelved and bins opened, of both productions, and the largest looks of a command; or a refusal.
 pub enum StreamResult {
-    Accepted { items: usize, opened: usize },
-    Refused { reason: StreamReason, offset: usize },
+    Accepted {
+        items: usize,
+        opened: usize,
+        looks: usize,
+    },
+    Refused {
+        reason: StreamReason,
+        offset: usize,
+    },
 }
 
 // An entry of a plan: an item's size and its bin's number.

@@ -5,7 +5,7 @@ use mathlib.Core.List.{List}
 use native.Mathlib.Omega.{arith}
 use Rattle.packing.specs.declared.{Opening.Opening, Production.Production, Command.Command}
 use Rattle.packing.specs.Streams.{accepted, verdict}
-use Rattle.packing.proofs.Theorems.{holds-answered, never-overfull, lowest-permitted, free-units, loads-add-up, withdrawals, stays, answers-in-range}
+use Rattle.packing.proofs.Theorems.{holds-answered, never-overfull, lowest-permitted, looks-taken, free-units, loads-add-up, withdrawals, stays, answers-in-range}
 use Rattle.packing.proofs.Theorems.{opened, counts, productions}
 use Rattle.alike.proofs.LeftOut.{refused-left-out}
 use Rattle.alike.proofs.Storing.{by-stored-sizes}
@@ -22,6 +22,7 @@ module _ (stream : List ℕ) (words : ℕ) (o : Opening) (cs : List Command) (e 
         counts = counts o cs;
         productions = productions o cs;
         lowest-permitted = lowest-permitted o cs;
+        looks = looks-taken o cs;
         by-stored-sizes = by-stored-sizes o cs;
         withdrawals = withdrawals o cs;
         refused-left-out = refused-left-out o cs;

@@ -3,7 +3,7 @@
 use Rattle.packing.specs.Prelude.{ℕ, _≡_, List}
 use Rattle.packing.specs.declared.{Opening.Opening, Production.Production, Command.Command}
 use Rattle.packing.specs.Streams.{accepted, verdict}
-use Rattle.packing.specs.Claims.{HoldsAnswered, NeverOverfull, LowestPermitted, FreeUnits, LoadsAddUp, Withdrawals, Stays, AnswersInRange, Opened, Counts, Productions}
+use Rattle.packing.specs.Claims.{HoldsAnswered, NeverOverfull, LowestPermitted, FreeUnits, Looks, LoadsAddUp, Withdrawals, Stays, AnswersInRange, Opened, Counts, Productions}
 use Rattle.alike.specs.Claims.{ByStoredSizes, RefusedLeftOut}
 use Rattle.alike.specs.Independent.{IndependentStreams}
 use Rattle.worst_case.specs.OwnPlan.{OwnPlan}
@@ -19,6 +19,8 @@ pub record OfBoth (o : Opening) (cs : List Command) : Type 0 where
   pub productions : Productions o cs
   -- Each item goes to the lowest permitted bin with space under the loads then present.
   pub lowest-permitted : LowestPermitted o cs
+  -- Each item that passes the checks before 10 is searched for once, with 1 look if nothing fits and 1 + h otherwise; the largest is returned.
+  pub looks : Looks o cs
   -- All is as without a trailer, with the stored sizes sent.
   pub by-stored-sizes : ByStoredSizes o cs
   -- A withdrawal is refused exactly when the item that it names is not on its production's shelf, and else answers the bin of that item.

@@ -1,4 +1,2 @@
--- The laws that printing rests on: how long an answer's line is, the walk over the commands, and the whole text.
-pub mod Lengths
-pub mod Listing
+-- The laws of the whole text.
 pub mod Texts

@@ -13,18 +13,20 @@ use Rattle.packing.specs.Refusals.{word, freeUnits, streamNumber}
 use Rattle.packing.specs.Bins.{opened}
 use Rattle.packing.specs.Streams.{Read, accepted, refused, verdict}
 use Rattle.packing.specs.Limits.{mostCommands}
-use Rattle.packing.specs.Run.{packing, answers, stillShelved, result, rowAtExit}
+use Rattle.packing.specs.Run.{packing, answers, stillShelved, result, rowAtExit, mostLooks}
 use Rattle.packing.proofs.Tests.{clash}
 use Rattle.packing.proofs.Limits.{in-limits}
 use Rattle.packing.proofs.Reached.{both-in-stock}
 use Rattle.packing.proofs.Running.{shelved-few}
+use Rattle.packing.proofs.Looks.{height-least, most-few}
 use Rattle.packing.proofs.Given.{stream-number-few}
 use Rattle.packing.proofs.Accepted.{accepted-whole}
 use Rattle.text.specs.Lines.{digits, decimal, line}
 use Rattle.text.specs.Writing.{AtFront}
-use Rattle.text.proofs.Lengths.{line-few}
-use Rattle.report.specs.Lines.{lines, answersText, refusal, mostBytes, overlong, text, printing, printed, mostOfARefusal, mostOfALine, mostOfAnswers}
-use Rattle.report.specs.Writing.{Listable}
+use Rattle.text.proofs.Lengths.{line-few, long-line-few}
+use Rattle.answer_lines.specs.Lines.{lines, mostOfALine, mostOfAnswers}
+use Rattle.answer_lines.specs.Writing.{Listable}
+use Rattle.report.specs.Lines.{answersText, refusal, mostBytes, overlong, text, printing, printed, mostOfARefusal}
 
 -- "L 32768" and the newline.
 pub long-length : length overlong ≡ 8
@@ -58,14 +60,14 @@ module _ (made : Opening → List Command → List ℕ) (stream : List ℕ) wher
     unfolding text
     printing-accepted o cs accepts = printing-text ∙ ap (text made) accepts
 
--- What is returned of an accepted stream tells that it is one, its items and its bins.
-module _ (stream : List ℕ) (items bins : ℕ) (e : StreamResult.Accepted items bins ≡ result (verdict stream mostCommands)) where
+-- What is returned of an accepted stream tells that it is one, its items, its bins and its looks.
+module _ (stream : List ℕ) (items bins looks : ℕ) (e : StreamResult.Accepted items bins looks ≡ result (verdict stream mostCommands)) where
   -- With its words in both rows and room for each line, an accepted stream can be listed.
   pub listable : (words row free freeRow out : List ℕ) → words ≡ rowAtExit word (verdict stream mostCommands) row
       → free ≡ rowAtExit freeUnits (verdict stream mostCommands) freeRow → mostOfAnswers ≤ length out → Listable stream words free out
   listable words row free freeRow out w f h = go (verdict stream mostCommands) refl e
     where
-      go : (r : Read) → verdict stream mostCommands ≡ r → StreamResult.Accepted items bins ≡ result r → Listable stream words free out
+      go : (r : Read) → verdict stream mostCommands ≡ r → StreamResult.Accepted items bins looks ≡ result r → Listable stream words free out
       go (accepted o cs) p q =
           record {
             opening = o;
@@ -80,7 +82,7 @@ module _ (stream : List ℕ) (items bins : ℕ) (e : StreamResult.Accepted items
       go (refused reason offset) p q = clash (cc)
 
   module _ (o : Opening) (cs : List Command) (accepts : verdict stream mostCommands ≡ accepted o cs) where
-    returned : StreamResult.Accepted items bins ≡ result (accepted o cs)
+    returned : StreamResult.Accepted items bins looks ≡ result (accepted o cs)
     returned = e ∙ ap result accepts
 
     items-are : items ≡ length (stillShelved o First cs) + length (stillShelved o Second cs)
@@ -89,19 +91,23 @@ module _ (stream : List ℕ) (items bins : ℕ) (e : StreamResult.Accepted items
     bins-are : bins ≡ opened (packing o First cs) + opened (packing o Second cs)
     bins-are = let r = returned in cc
 
-    -- "T 4096 512" and the newline.
-    pub totals-few : length (line (code "T") (items ∷ bins ∷ [])) ≤ mostOfALine
+    looks-are : looks ≡ mostLooks o cs
+    looks-are = let r = returned in cc
+
+    -- "T 4096 512 10" and the newline.
+    pub totals-few : length (line (code "T") (items ∷ bins ∷ looks ∷ [])) ≤ mostOfALine
     totals-few =
         let ok = accepted-whole mostCommands o cs stream accepts in
         let stock = in-limits o (ok .opening-good) .stock .1 in
         omega (
           arith,
-          line-few (code "T") 3 2 items bins (omega (arith, items-are, shelved-few o cs, ok .commands-few)) (omega (arith, bins-are, both-in-stock o cs, stock)),
+          long-line-few (code "T") 3 2 1 items bins looks (omega (arith, items-are, shelved-few o cs, ok .commands-few)) (omega (arith, bins-are, both-in-stock o cs, stock))
+              (omega (arith, looks-are, most-few o cs, height-least (o .stock) .least 9 stock)),
         )
 
-    pub printed-accepted : length stream ≤ mostBytes → printed stream ≡ lines (answers o cs) ++ line (code "T") (items ∷ bins ∷ [])
+    pub printed-accepted : length stream ≤ mostBytes → printed stream ≡ lines (answers o cs) ++ line (code "T") (items ∷ bins ∷ looks ∷ [])
     unfolding printed
-    printed-accepted short = printing-accepted answersText stream short o cs accepts ∙ rw (items-are, bins-are)
+    printed-accepted short = printing-accepted answersText stream short o cs accepts ∙ rw (items-are, bins-are, looks-are)
 
 -- What the contract of `print` says, for a caller that hands the text on: it stands inside the row.
 module _ (made row : List ℕ) (end : ℕ) (row′ : List ℕ) where

@@ -1,4 +1,3 @@
--- What `shelve` prints, with document 01's sample, and what the functions that print it promise to each other.
+-- What `shelve` prints, with document 01's sample.
 pub mod Lines
 pub mod Worked
-pub mod Writing

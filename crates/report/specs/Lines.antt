@@ -1,39 +1,23 @@
 -- "Worked shelves", last paragraph: what `shelve` prints, as a row of bytes in ASCII.
-use mathlib.Core.List.{List, [], _∷_, _++_, map, flatten}
-use Prim.Native.Nat.{ℕ, _+_, _*_}
+use mathlib.Core.List.{List, [], _∷_, _++_}
+use Prim.Native.Nat.{ℕ, _+_}
 use Prim.Native.Char.{code}
 use lib.ListN.{length}
-use Rattle.packing.specs.declared.{Opening.Opening, Command.Command, Outcome.Outcome, Answer.Answer, StreamReason.StreamReason}
-use Rattle.packing.specs.declared.Outcome.the-variants.{Placed, Counted, Withdrawn, Switched, Refused}
+use Rattle.packing.specs.declared.{Opening.Opening, Command.Command, StreamReason.StreamReason}
 use Rattle.packing.specs.declared.Production.the-variants.{First, Second}
 use Rattle.packing.specs.Prelude.{_<?_, if_then_else_}
 use Rattle.packing.specs.Limits.{mostCommands}
-use Rattle.packing.specs.Productions.{productionNumber}
-use Rattle.packing.specs.Refusals.{itemNumber, streamNumber}
+use Rattle.packing.specs.Refusals.{streamNumber}
 use Rattle.packing.specs.Bins.{opened}
 use Rattle.packing.specs.Streams.{Read, accepted, refused, verdict}
-use Rattle.packing.specs.Run.{answers, packing, stillShelved}
+use Rattle.packing.specs.Run.{answers, packing, stillShelved, mostLooks}
 use Rattle.text.specs.Lines.{line}
+use Rattle.answer_lines.specs.Lines.{lines}
 
--- "`P` command cartridge; `C` command count; `R` command refusal", "`P` lines gain the figure at their end", "`shelve` prints `O` command cartridge",
--- without the free units, and 05 is "printed as `S` command production": by what the command of this number comes to.
-abbrev pub lineOf : (number : ℕ) → Outcome → List ℕ
-lineOf number (Placed bin free) = line (code "P") (number ∷ bin ∷ free ∷ [])
-lineOf number (Counted opened) = line (code "C") (number ∷ opened ∷ [])
-lineOf number (Withdrawn bin free) = line (code "O") (number ∷ bin ∷ [])
-lineOf number (Switched r) = line (code "S") (number ∷ productionNumber r ∷ [])
-lineOf number (Refused reason) = line (code "R") (number ∷ itemNumber reason ∷ [])
-
-abbrev pub answerLine : Answer → List ℕ
-answerLine a = lineOf (a .number) (a .outcome)
-
--- The lines of answers, in their order.
-abbrev pub lines : List Answer → List ℕ
-lines rows = flatten (map answerLine rows)
-
--- "At the end `T` masters-accepted cartridges-opened": the masters "are of masters still shelved", and both figures "total both" productions.
+-- "At the end `T` masters-accepted cartridges-opened": the masters "are of masters still shelved", and both figures "total both" productions; "`T` gains at
+-- its end the largest" looks.
 abbrev pub totals : Opening → List Command → List ℕ
-totals o cs = (length (stillShelved o First cs) + length (stillShelved o Second cs)) ∷ (opened (packing o First cs) + opened (packing o Second cs)) ∷ []
+totals o cs = (length (stillShelved o First cs) + length (stillShelved o Second cs)) ∷ (opened (packing o First cs) + opened (packing o Second cs)) ∷ mostLooks o cs ∷ []
 
 abbrev pub answersText : Opening → List Command → List ℕ
 answersText o cs = lines (answers o cs) ++ line (code "T") (totals o cs)
@@ -64,10 +48,3 @@ printed stream = printing answersText stream
 -- Neither the line of a refusal ("X 18 18446744073709551615" and its newline) nor that of an overlong stream is longer than this.
 abbrev pub mostOfARefusal : ℕ
 mostOfARefusal = 26
-
--- No line of an answer or of the totals is longer than this ("P 4096 512 16777215" and its newline), and so not the lines of all answers.
-abbrev pub mostOfALine : ℕ
-mostOfALine = 20
-
-abbrev pub mostOfAnswers : ℕ
-mostOfAnswers = mostOfALine * mostCommands

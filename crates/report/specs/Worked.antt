@@ -7,7 +7,8 @@ use Prim.Native.Char.{code}
 use Prim.Native.String.{String}
 use Prim.Native.String.{[] as end-of-text, _∷_ as _before_}
 use Rattle.packing.specs.Placing.{firstFit, put, decision, placed}
-use Rattle.packing.specs.Prelude.{total, any, keep}
+use Rattle.packing.specs.Looks.{heightFrom, looks}
+use Rattle.packing.specs.Prelude.{total, greatest, any, keep}
 use Rattle.packing.specs.Withdrawing.{without, withdrawal}
 use Rattle.packing.specs.SizeClasses.{sizeClass}
 use Rattle.packing.specs.Streams.{widths, lookup, commands, read}
@@ -39,13 +40,13 @@ both =
 -- Streams beside what is printed of them: the sample, that of two productions, one that names a third, an opening alone, and no stream at all.
 unfoldable pub table : List (List ℕ × String)
 table =
-    (sample, "P 1 1 25\nP 2 2 38\nP 3 2 16\nP 4 3 38\nP 5 3 16\nP 6 4 38\nP 7 1 3\nR 8 10\nC 9 4\nP 10 4 16\nT 8 4\n") ∷
-    (both, "P 1 1 0\nS 2 1\nP 3 1 40\nP 4 2 0\nC 5 2\nR 6 10\nR 7 17\nS 8 0\nC 9 1\nT 3 3\n") ∷
+    (sample, "P 1 1 25\nP 2 2 38\nP 3 2 16\nP 4 3 38\nP 5 3 16\nP 6 4 38\nP 7 1 3\nR 8 10\nC 9 4\nP 10 4 16\nT 8 4 3\n") ∷
+    (both, "P 1 1 0\nS 2 1\nP 3 1 40\nP 4 2 0\nC 5 2\nR 6 10\nR 7 17\nS 8 0\nC 9 1\nT 3 3 1\n") ∷
     (both ++ 0x05 ∷ 2 ∷ [], "X 18 37\n") ∷
-    (0x01 ∷ 0 ∷ 0 ∷ 0 ∷ 0x3C ∷ 0 ∷ 4 ∷ 6 ∷ [], "T 0 0\n") ∷
+    (0x01 ∷ 0 ∷ 0 ∷ 0 ∷ 0x3C ∷ 0 ∷ 4 ∷ 6 ∷ [], "T 0 0 0\n") ∷
     ([], "X 1 0\n") ∷
     []
 
 pub worked-texts : map (λ c. printed (c .0)) table ≡ map (λ c. bytes (c .1)) table
-unfolding table bytes printed printing text line decimal digits sizeClass total any keep firstFit put decision placed without withdrawal runFrom shelfFrom stepsOf flatten widths lookup commands read
+unfolding table bytes printed printing text line decimal digits sizeClass total greatest any keep firstFit put decision placed heightFrom looks without withdrawal runFrom shelfFrom stepsOf flatten widths lookup commands read
 worked-texts = refl

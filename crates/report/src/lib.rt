@@ -1,5 +1,4 @@
 // The text that the program `shelve` prints of a stream, in a row of bytes that the caller lends.
-mod answers;
 pub mod refused;
 
 use crate::refused::MOST_BYTES;
@@ -28,9 +27,13 @@ pub fn print(stream: &[u8], out: &mut [u8; N]) -> usize
     let mut free = [0u32; MOST_COMMANDS];
     match stream::shelve(stream, &mut words, &mut free) {
         StreamResult::Refused { reason, offset } => refused::put_refusal(out, reason, offset),
-        StreamResult::Accepted { items, opened } => {
-            let end = answers::put_answers(stream, &words, &free, out);
-            let figures = [items, opened];
+        StreamResult::Accepted {
+            items,
+            opened,
+            looks,
+        } => {
+            let end = answer_lines::put_answers(stream, &words, &free, out);
+            let figures = [items, opened, looks];
             text::put_line(out, end, b'T', &figures)
         }
     }

@@ -1,6 +1,7 @@
 // The second pass: the commands of an accepted stream, in stretches of one production and of the other. Each production has its own trees, ledger and
 // notes. The ledgers are the caller's, and record the packings after all commands when the pass is over.
 use aim::Counters;
+use engine::Terms;
 use ledger::BINS;
 use ledger::COLUMNS;
 use ledger::NOTE_WORDS;
@@ -9,14 +10,19 @@ use packing::Opening;
 use packing::Production;
 use tournament::ROW_WORDS;
 use tournament::Shape;
+use tournament::looks;
+use tournament::looks::Looks;
+ghost use mathlib.Core.Path.{_≡_};
+ghost use Prim.Native.Nat.{_≤_};
 ghost use Rattle.engine.specs.Store.{store};
 ghost use Rattle.run.specs.Turns.{Turnable, Turned};
-ghost use Rattle.run.specs.Running.{Runnable, Ran};
+ghost use Rattle.run.specs.Running.{termsBeside, Runnable, Ran};
 
-// The counters of both productions after all commands.
+// The counters of both productions after all commands, and the largest looks of one.
 pub struct Totals {
     pub first: Counters,
     pub second: Counters,
+    pub looks: Looks,
 }
 
 // The counters at the opening: no bin is opened, and the first B2 goes to tree 3.
@@ -26,6 +32,19 @@ const NONE_YET: Counters = Counters {
     items: 0,
     b2: 3,
 };
+
+// What the commands of a production are answered by while the other has these counters: what that has opened is not left of the stock.
+fn terms_beside(opening: Opening, shape: Shape, other: Counters) -> Terms
+    requires { ⌜ other .opened ≤ opening .stock ⌝ }
+    ensures { λ r. ⌜ r ≡ termsBeside opening shape (other .opened) ⌝ }
+{
+    let left = opening.stock as u32 - other.opened;
+    Terms {
+        opening,
+        shape,
+        left,
+    }
+}
 
 // Answers what follows the first stretch of production 0: stretches of production 1 and of production 0 take turns. The trees and the notes of production
 // 1 are laid out here: a stream that never goes there does without them.
@@ -41,25 +60,24 @@ fn answer_turns(
     answers: &mut [u16],
     free: &mut [u32],
     answered: usize,
+    most: Looks,
 ) -> Totals
-    requires { ⌜ Turnable opening shape (now commands) (now answers) (now free) answered (store (now trees) (now ledger) (now notes) before) (now other) ⌝ }
-    ensures { λ r. ⌜ Turned opening shape (now (commands .entry)) (now (answers .entry)) (now (free .entry)) answered (store (now (trees .entry)) (now (ledger .entry)) (now (notes .entry)) before) (now (other .entry)) (now (answers .exit)) (now (free .exit)) (r .first) (now (ledger .exit)) (r .second) (now (other .exit)) ⌝ }
+    requires { ⌜ Turnable opening shape (now commands) (now answers) (now free) answered (most .count) (store (now trees) (now ledger) (now notes) before) (now other) ⌝ }
+    ensures { λ r. ⌜ Turned opening shape (now (commands .entry)) (now (answers .entry)) (now (free .entry)) answered (most .count) (store (now (trees .entry)) (now (ledger .entry)) (now (notes .entry)) before) (now (other .entry)) (now (answers .exit)) (now (free .exit)) (r .first) (now (ledger .exit)) (r .second) (now (other .exit)) (r .looks .count) ⌝ }
 {
-    let stock = opening.stock as u32;
     let mut trees1 = [0u32; ROW_WORDS];
     let mut notes1 = [[0u32; NOTE_WORDS]; NUMBERS];
     let mut first = before;
     let mut second = NONE_YET;
     let mut later = commands;
     let mut done = answered;
+    let mut looks = most;
     while 0 < later.len() {
-        let left = stock - first.opened;
+        let terms = terms_beside(opening, shape, first);
         let turn = stretch::answer_stretch(
             later,
             Production::Second,
-            opening,
-            left,
-            shape,
+            terms,
             second,
             &mut trees1,
             other,
@@ -67,18 +85,18 @@ fn answer_turns(
             answers,
             free,
             done,
+            looks,
         );
         second = turn.counters;
         done = turn.done;
+        looks = turn.looks;
         let passed = turn.passed;
         later = &later[passed..];
-        let left = stock - second.opened;
+        let terms = terms_beside(opening, shape, second);
         let turn = stretch::answer_stretch(
             later,
             Production::First,
-            opening,
-            left,
-            shape,
+            terms,
             first,
             trees,
             ledger,
@@ -86,13 +104,19 @@ fn answer_turns(
             answers,
             free,
             done,
+            looks,
         );
         first = turn.counters;
         done = turn.done;
+        looks = turn.looks;
         let passed = turn.passed;
         later = &later[passed..];
     }
-    Totals { first, second }
+    Totals {
+        first,
+        second,
+        looks,
+    }
 }
 
 // Answers every command of a stream that no refusal stops, and records the packing of each production in its ledger.
@@ -106,18 +130,16 @@ pub fn answer_all(
     free: &mut [u32],
 ) -> Totals
     requires { ⌜ Runnable (now stream) (now answers) (now free) opening shape (now first) (now second) ⌝ }
-    ensures { λ r. ⌜ Ran (now (stream .entry)) (now (answers .entry)) (now (free .entry)) opening (now (answers .exit)) (now (free .exit)) (r .first) (now (first .exit)) (r .second) (now (second .exit)) ⌝ }
+    ensures { λ r. ⌜ Ran (now (stream .entry)) (now (answers .entry)) (now (free .entry)) opening (now (answers .exit)) (now (free .exit)) (r .first) (now (first .exit)) (r .second) (now (second .exit)) (r .looks .count) ⌝ }
 {
-    let stock = opening.stock as u32;
+    let terms = terms_beside(opening, shape, NONE_YET);
     let mut trees = [0u32; ROW_WORDS];
     let mut notes = [[0u32; NOTE_WORDS]; NUMBERS];
     let commands = reader::behind_opening(stream);
     let turn = stretch::answer_stretch(
         commands,
         Production::First,
-        opening,
-        stock,
-        shape,
+        terms,
         NONE_YET,
         &mut trees,
         first,
@@ -125,15 +147,18 @@ pub fn answer_all(
         answers,
         free,
         0,
+        looks::NONE,
     );
     let counters = turn.counters;
     let done = turn.done;
+    let looks = turn.looks;
     let passed = turn.passed;
     let rest = &commands[passed..];
     if rest.len() == 0 {
         return Totals {
             first: counters,
             second: NONE_YET,
+            looks,
         };
     }
     answer_turns(
@@ -148,5 +173,6 @@ pub fn answer_all(
         answers,
         free,
         done,
+        looks,
     )
 }

@@ -60,6 +60,7 @@ pub fn print(stream: &[u8], out: &mut [u8; N]) -> usize
         StreamResult::Accepted {
             items: _,
             opened: _,
+            looks: _,
         } => {
             let opening = reader::opening_of(stream);
             put_both(&first, &second, opening, out)

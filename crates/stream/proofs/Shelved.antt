@@ -21,11 +21,11 @@ pub record Shelved (stream : List ℕ) (first second : List (List ℕ)) : Type 0
   pub accepts : verdict stream mostCommands ≡ accepted opening commands
   pub records : BothRecorded opening commands first second
 
-pub shelved : {stream : List ℕ} {first second : List (List ℕ)} {items bins : ℕ} → StreamResult.Accepted items bins ≡ result (verdict stream mostCommands)
+pub shelved : {stream : List ℕ} {first second : List (List ℕ)} {items bins looks : ℕ} → StreamResult.Accepted items bins looks ≡ result (verdict stream mostCommands)
     → Recorded (verdict stream mostCommands) first second → Shelved stream first second
-shelved {stream = stream} {first = first} {second = second} {items = items} {bins = bins} e k = go (verdict stream mostCommands) refl e k
+shelved {stream = stream} {first = first} {second = second} {items = items} {bins = bins} {looks = looks} e k = go (verdict stream mostCommands) refl e k
   where
-    go : (r : Read) → verdict stream mostCommands ≡ r → StreamResult.Accepted items bins ≡ result r → Recorded r first second → Shelved stream first second
+    go : (r : Read) → verdict stream mostCommands ≡ r → StreamResult.Accepted items bins looks ≡ result r → Recorded r first second → Shelved stream first second
     go (accepted o cs) p q h = record { opening = o; commands = cs; accepts = p; records = h }
     go (refused reason offset) p q h = clash (cc)
 

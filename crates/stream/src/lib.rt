@@ -4,6 +4,7 @@ use ledger::COLUMNS;
 use packing::StreamReason;
 use packing::StreamResult;
 use reader::Summary;
+use tournament::looks;
 ghost use mathlib.Core.Path.{_≡_};
 ghost use lib.ListN.{replicate};
 ghost use Rattle.packing.specs.Refusals.{word, freeUnits};
@@ -41,13 +42,14 @@ pub fn record(
             }
             let shape = tournament::shape_of(opening.stock);
             let totals = run::answer_all(stream, opening, shape, first, second, answers, free);
-            let items0 = totals.first.items as usize;
-            let items1 = totals.second.items as usize;
-            let opened0 = totals.first.opened as usize;
-            let opened1 = totals.second.opened as usize;
-            let items = items0 + items1;
-            let opened = opened0 + opened1;
-            StreamResult::Accepted { items, opened }
+            let items = totals.first.items as usize + totals.second.items as usize;
+            let opened = totals.first.opened as usize + totals.second.opened as usize;
+            let looks = looks::figure(totals.looks) as usize;
+            StreamResult::Accepted {
+                items,
+                opened,
+                looks,
+            }
         }
     }
 }

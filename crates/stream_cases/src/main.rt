@@ -140,6 +140,35 @@ fn answers() {
     );
 }
 
+// The largest looks, for stocks from 1 to 512: two items of 20, of which the second joins the first; the same before an item that opens a bin; and items
+// that are refused before they are searched for.
+fn looks() {
+    show(
+        b"1 look, stock 1\n",
+        b"\x01\0\0\0\x3c\0\x01\x06\x02\0\0\0\x14\x02\0\0\0\x14",
+    );
+    show(
+        b"2 looks, stock 2\n",
+        b"\x01\0\0\0\x3c\0\x02\x06\x02\0\0\0\x14\x02\0\0\0\x14",
+    );
+    show(
+        b"3 looks, stock 3\n",
+        b"\x01\0\0\0\x3c\0\x03\x06\x02\0\0\0\x14\x02\0\0\0\x14\x02\0\0\0\x3c",
+    );
+    show(
+        b"10 looks, stock 511\n",
+        b"\x01\0\0\0\x3c\x01\xff\x06\x02\0\0\0\x14\x02\0\0\0\x14",
+    );
+    show(
+        b"10 looks, stock 512\n",
+        b"\x01\0\0\0\x3c\x02\0\x06\x02\0\0\0\x14\x02\0\0\0\x14",
+    );
+    show(
+        b"no look\n",
+        b"\x01\0\0\0\x3c\x02\0\x06\x02\0\0\0\0\x02\0\0\0\x3d",
+    );
+}
+
 // Withdrawals that are refused: of 0, of the command itself and of a later one, of a count, of a refused item, of one already out, of a withdrawal, and
 // of numbers up to the last and past it. An m-th B2 passes over an emptied bin of class 1 and one that holds only a B2, and an A goes into either. A
 // stock that is spent stays so when its bin is emptied, which takes only items of its class.
@@ -260,7 +289,7 @@ fn openings() {
     let mut s = [0u8; SPACE];
     let first = fill(&mut s, 0, 10, b"\x11\0\0\0\x3c\x02\0\x06\0\x01");
     let most = fill(&mut s, first, 20480, b"\x02\0\0\0\x3b");
-    show_end(b"4096 items of 59 and trailer 1\n", front(&s, most), 20);
+    show_end(b"4096 items of 59 and trailer 1\n", front(&s, most), 22);
 }
 
 // As many commands as there may be, and one more, which is refused with 6 before any other fault of it.
@@ -268,7 +297,7 @@ fn commands() {
     let mut s = [0u8; SPACE];
     let first = fill(&mut s, 0, 8, b"\x01\0\0\0\x3c\x02\0\x06");
     let most = fill(&mut s, first, 4096, b"\x03");
-    show_end(b"4096 counts\n", front(&s, most), 15);
+    show_end(b"4096 counts\n", front(&s, most), 17);
     let full = put(&mut s, most, 3);
     show(b"4097 counts\n", front(&s, full));
     let unknown = put(&mut s, most, 8);
@@ -289,14 +318,14 @@ fn turns() {
     let mut s = [0u8; SPACE];
     let first = fill(&mut s, 0, 8, b"\x01\0\0\0\x3c\x02\0\x06");
     let most = fill(&mut s, first, 8192, b"\x05\x01");
-    show_end(b"4096 times production 1\n", front(&s, most), 15);
+    show_end(b"4096 times production 1\n", front(&s, most), 17);
     let most = fill(
         &mut s,
         first,
         14336,
         b"\x02\0\0\0\x3c\x05\x01\x02\0\0\0\x3c\x05\0",
     );
-    show_end(b"2048 items of 60 by turns\n", front(&s, most), 29);
+    show_end(b"2048 items of 60 by turns\n", front(&s, most), 31);
 }
 
 // As many items as there may be; a stream as long as it may be, and one byte longer; as many items in one bin, whose lines are longer.
@@ -304,14 +333,14 @@ fn lengths() {
     let mut s = [0u8; SPACE];
     let first = fill(&mut s, 0, 8, b"\x01\0\0\0\x3c\x02\0\x06");
     let most = fill(&mut s, first, 20480, b"\x02\0\0\0\x3c");
-    show_end(b"4096 items of 60\n", front(&s, most), 20);
+    show_end(b"4096 items of 60\n", front(&s, most), 22);
     let longest = fill(&mut s, most, 12280, b"\x02\0\0\0\x3c");
     show(b"32768 bytes\n", front(&s, longest));
     let longer = put(&mut s, longest, 3);
     show(b"32769 bytes\n", front(&s, longer));
     let first = fill(&mut s, 0, 8, b"\x01\x01\0\0\0\0\x01\x09");
     let most = fill(&mut s, first, 20480, b"\x02\0\0\0\x01");
-    show_end(b"4096 items of 1\n", front(&s, most), 27);
+    show_end(b"4096 items of 1\n", front(&s, most), 29);
 }
 
 // Sheets with none opened: an opening alone, and behind it a count and items that are refused. Streams without a sheet: with no opening, and one that
@@ -365,6 +394,7 @@ fn main() {
     orders();
     limits();
     answers();
+    looks();
     withdrawals();
     productions();
     one_stock();

@@ -16,6 +16,7 @@ use Rattle.tournament.specs.declared.Found.the-variants.{At, Nothing}
 use Rattle.tournament.specs.Trees.{rowWords, node, leaves, Tree}
 use Rattle.tournament.specs.LowestFit.{lowestFit}
 use Rattle.tournament.specs.Descent.{Under, Descent, First}
+use Rattle.tournament.proofs.Powers.{below-power}
 use Rattle.tournament.proofs.Fits.{meant}
 use Rattle.tournament.proofs.Leaves.{leaf-node, leaves-length}
 
@@ -116,6 +117,10 @@ module _ {b : ℕ} {shape : Shape} {t : List ℕ} (tree : Tree b shape t) where
 
   count : length (leaves t b (shape .places)) ≡ shape .places
   count = leaves-length t b (shape .places) (omega (arith, tree .words, tree .room))
+
+  -- So many levels can be counted.
+  pub height-few : shape .height < rowWords
+  height-few = omega (arith, tree .power, tree .room, below-power (shape .height))
 
   pub root : (need : ℕ) → need ≤ node t b 1 → Descent t b 1 (shape .height) need
   root need l = record { under = root-under; room = omega (arith, tree .power, tree .room); enough = l }

@@ -1,6 +1,6 @@
 -- Powers of two, doubled as long as they stay below the stock.
 use mathlib.Core.Path.{_≡_, refl}
-use Prim.Native.Nat.{ℕ, suc, _+_, _*_, _^_, _≤_, _<_}
+use Prim.Native.Nat.{ℕ, zero, suc, _+_, _*_, _^_, _≤_, _<_}
 use native.Mathlib.Nat.{two-pow-succ}
 use native.Mathlib.Numerals.{add-one}
 use native.Mathlib.Decide.{decLe}
@@ -16,6 +16,11 @@ pub record Growing (stock places height : ℕ) : Type 0 where
 
 pub growing-start : (stock : ℕ) → Growing stock 1 0
 growing-start stock = record { power = refl; few = omega arith; low = omega arith; least = λ k l. omega arith }
+
+-- A power of two is above its exponent.
+pub below-power : (h : ℕ) → h < 2 ^ h
+below-power zero = omega arith
+below-power (suc h) = omega (arith, two-pow-succ h, below-power h)
 
 exponent : (h k : ℕ) → 2 ^ h < 2 ^ k → h < k
 exponent h k l = elim (decLe k h) [

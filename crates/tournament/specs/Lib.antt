@@ -3,3 +3,4 @@ pub mod Shapes
 pub mod Trees
 pub mod LowestFit
 pub mod Descent
+pub mod Looking

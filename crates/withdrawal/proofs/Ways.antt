@@ -1,4 +1,4 @@
--- The ways out of a withdrawal, each a law over what the code knows there, whatever is left of the stock.
+-- The ways out of a withdrawal, each a law over what the code knows there, whatever is left of the stock. None takes a look.
 use mathlib.Core.Path.{_≡_, refl, sym, ap, _∙_}
 use mathlib.Core.Logic.{inr}
 use mathlib.Core.Bool.{true, false}
@@ -67,7 +67,7 @@ module _ {o : Opening} {shape : Shape} {named : ℕ} {t : List ℕ} {ledger note
   in-stock = omega (arith, present named (h .sound .represents .noted) place there .there, h .sound .represents .bins, h .sound .within)
 
   pub inside : place < places
-  inside = omega (arith, in-stock, h .sound .stock, h .sound .index .forest .few)
+  inside = omega (arith, in-stock, h .sound .fitted .enough, h .sound .index .forest .few)
 
   pub leavable : Leavable ledger place size (oneA o (item named size))
   leavable = can-leave (h .sound .represents .records) (h .sound .represents .noted) named place there inside (h .sound .capacity)
@@ -82,7 +82,7 @@ module _ {o : Opening} {shape : Shape} {named : ℕ} {t : List ℕ} {ledger note
     freed =
         let then = h .sound .represents in
         let class = class-good (then .records) (then .noted) named place there inside d in
-        let within : place < shape .places = omega (arith, in-stock, h .sound .stock) in
+        let within : place < shape .places = omega (arith, in-stock, h .sound .fitted .enough) in
         record {
           showable = record { forest = h .sound .index .forest; inside = within; classed = class .0; class-few = class .1 };
           rises =
@@ -91,13 +91,14 @@ module _ {o : Opening} {shape : Shape} {named : ℕ} {t : List ℕ} {ledger note
 
     module _ {u : List ℕ} (shown : Shown shape t place row u) (number left : ℕ) where
       modelled : (p : Packing) → Represents o (store t ledger notes c) p
-          → Modelled o left number (Withdraw named) (Withdrawn (binIn (noteAt notes named)) (freeIn row)) (store u ledger′ (set notes named unnoted) (withdrawing c)) p
+          → Modelled o left number (Withdraw named) (Withdrawn (binIn (noteAt notes named)) (freeIn row)) 0 (store u ledger′ (set notes named unnoted) (withdrawing c)) p
       unfolding without
       modelled p r =
           let first = present named (r .noted) place there in
           let came = withdrawn-as o p named (first .some) in
           let bin : binHolding named p ≡ suc place = ap suc (first .first) in
           record {
+            looked = refl;
             answered =
                 ap (λ n. Withdrawn n (freeIn row)) there ∙ ap (Withdrawn (suc place)) (free-then (r .records) (r .noted) named place there inside d)
                 ∙ ap (λ n. Withdrawn n (freeOn o n (without named p))) (sym bin) ∙ sym came;
@@ -112,7 +113,7 @@ module _ {o : Opening} {shape : Shape} {named : ℕ} {t : List ℕ} {ledger note
                 });
           }
 
-      pub done-withdrawn : Done o left shape (store t ledger notes c) number (Withdraw named) (answering number (Withdrawn (binIn (noteAt notes named)) (freeIn row)))
+      pub done-withdrawn : Done o left shape (store t ledger notes c) number (Withdraw named) (answering number (Withdrawn (binIn (noteAt notes named)) (freeIn row))) 0
           (store u ledger′ (set notes named unnoted) (withdrawing c))
       done-withdrawn =
           let sound = h .sound in
@@ -122,7 +123,7 @@ module _ {o : Opening} {shape : Shape} {named : ℕ} {t : List ℕ} {ledger note
               index =
                   rw (d .ledger-is)
                   (indexes-set (sound .index) (omega (arith, then .records .whole, inside)) (inr (class-kept (then .records) (then .noted) named place there inside d)) shown);
-              stock = sound .stock;
+              fitted = sound .fitted;
               capacity = sound .capacity;
               within = sound .within;
               phase = sound .phase;

@@ -1,8 +1,8 @@
 // "Withdrawn masters": command 04 takes out the item that the command of another number shelved. The note of that number tells where it lies, so there is
-// no search and no walk: one row of the ledger is written, one note, and the row is shown in the trees. It opens no bin, so its contracts hold whatever is
-// left of the stock.
+// no search and no walk: one row of the ledger is written, one note, and the row is shown in the trees. It takes no look.
 use aim::Counters;
 use engine::Answered;
+use engine::Terms;
 use ledger::BINS;
 use ledger::COLUMNS;
 use ledger::FREE;
@@ -10,13 +10,10 @@ use ledger::NOTE_BIN;
 use ledger::NOTE_SIZE;
 use ledger::NOTE_WORDS;
 use ledger::NUMBERS;
-use packing::Answer;
 use packing::ItemReason;
-use packing::Opening;
 use packing::Outcome;
 use tournament::ROW_WORDS;
-use tournament::Shape;
-ghost use Prim.Native.Nat.{ℕ};
+use tournament::looks;
 ghost use Rattle.packing.specs.declared.Command.the-variants.{Withdraw};
 ghost use Rattle.engine.specs.Store.{store, Sound};
 ghost use Rattle.engine.specs.Done.{Done};
@@ -27,33 +24,29 @@ fn take_out(
     trees: &mut [u32; ROW_WORDS],
     ledger: &mut [[u32; COLUMNS]; BINS],
     notes: &mut [[u32; NOTE_WORDS]; NUMBERS],
-    shape: Shape,
+    terms: Terms,
     counters: Counters,
-    opening: Opening,
     number: usize,
     named: u32,
 ) -> Answered
-    requires { ⌜ Lies opening shape named (store (now trees) (now ledger) (now notes) counters) ⌝ }
-    ensures { λ r. ⌜ ((left : ℕ) → Done opening left shape (store (now (trees .entry)) (now (ledger .entry)) (now (notes .entry)) counters) number (Withdraw named) (r .answer) (store (now (trees .exit)) (now (ledger .exit)) (now (notes .exit)) (r .next))) ⌝ }
+    requires { ⌜ Lies (terms .opening) (terms .shape) named (store (now trees) (now ledger) (now notes) counters) ⌝ }
+    ensures { λ r. ⌜ Done (terms .opening) (terms .left) (terms .shape) (store (now (trees .entry)) (now (ledger .entry)) (now (notes .entry)) counters) number (Withdraw named) (r .answer) (r .looks .count) (store (now (trees .exit)) (now (ledger .exit)) (now (notes .exit)) (r .next)) ⌝ }
 {
     let row_named = named as usize;
     let note = notes[row_named];
     let size = note[NOTE_SIZE];
     let bin = note[NOTE_BIN] as u16;
     let place = bin as usize - 1;
-    let a = aim::a_of(size, opening.capacity);
+    let a = aim::a_of(size, terms.opening.capacity);
     let next = aim::withdraw(counters);
     let row = ledger::leave(ledger, place, size, a);
     let none = [0u32; NOTE_WORDS];
     notes[row_named] = none;
     let free = row[FREE];
-    let answer = Answer {
-        number,
-        outcome: Outcome::Withdrawn { bin, free },
-    };
+    let outcome = Outcome::Withdrawn { bin, free };
     // Last, as where an item is placed.
-    index::show_freed(trees, shape, place, row);
-    Answered { answer, next }
+    index::show_freed(trees, terms.shape, place, row);
+    engine::give(number, outcome, next, looks::NONE)
 }
 
 // Answers command 04: 17 where no item of that number is on the shelf. A number past the notes is no command's; the note of any other that has none, its
@@ -62,31 +55,21 @@ pub fn withdraw(
     trees: &mut [u32; ROW_WORDS],
     ledger: &mut [[u32; COLUMNS]; BINS],
     notes: &mut [[u32; NOTE_WORDS]; NUMBERS],
-    shape: Shape,
+    terms: Terms,
     counters: Counters,
-    opening: Opening,
     number: usize,
     named: u32,
 ) -> Answered
-    requires { ⌜ Sound opening shape (store (now trees) (now ledger) (now notes) counters) ⌝ }
-    ensures { λ r. ⌜ ((left : ℕ) → Done opening left shape (store (now (trees .entry)) (now (ledger .entry)) (now (notes .entry)) counters) number (Withdraw named) (r .answer) (store (now (trees .exit)) (now (ledger .exit)) (now (notes .exit)) (r .next))) ⌝ }
+    requires { ⌜ Sound (terms .opening) (terms .shape) (store (now trees) (now ledger) (now notes) counters) ⌝ }
+    ensures { λ r. ⌜ Done (terms .opening) (terms .left) (terms .shape) (store (now (trees .entry)) (now (ledger .entry)) (now (notes .entry)) counters) number (Withdraw named) (r .answer) (r .looks .count) (store (now (trees .exit)) (now (ledger .exit)) (now (notes .exit)) (r .next)) ⌝ }
 {
     let place = named as usize;
     if NUMBERS <= place {
-        return engine::refuse(number, ItemReason::NotShelved, counters);
+        return engine::refuse(number, ItemReason::NotShelved, counters, looks::NONE);
     }
     let note = notes[place];
     if note[NOTE_BIN] == 0 {
-        return engine::refuse(number, ItemReason::NotShelved, counters);
+        return engine::refuse(number, ItemReason::NotShelved, counters, looks::NONE);
     }
-    take_out(
-        trees,
-        ledger,
-        notes,
-        shape,
-        counters,
-        opening,
-        number,
-        named,
-    )
+    take_out(trees, ledger, notes, terms, counters, number, named)
 }

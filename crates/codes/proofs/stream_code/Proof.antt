@@ -8,7 +8,7 @@ use Rattle.codes.proofs.stream_code.Statement.{statement}
 use Rattle.codes.proofs.stream_code.Tie as tie
 
 -- Where the stream is accepted: its totals.
-totals-fit : (c : tie.After-known-told) → (c .before .r .given .0 .0 < 65536) × (c .before .r .given .0 .1 .0 < 65536)
+totals-fit : (c : tie.After-known-told) → (c .before .r .given .0 .0 < 65536) × ((c .before .r .given .0 .1 .0 < 65536) × (c .before .r .given .0 .1 .1 .0 < 2147483648))
 totals-fit c = subst FiguresFit (c .before .r .given .1) (c .before .before .before .pre)
 
 -- Where it is refused: the offset.
@@ -24,8 +24,14 @@ enum-known-r c = search needs
 mul-high : tie.Need-mul-high
 mul-high c = omega (arith, totals-fit c)
 
+mul-middle : tie.Need-mul-middle
+mul-middle c = omega (arith, totals-fit c)
+
 add-result : tie.Need-add-result
 add-result c = omega (arith, totals-fit c)
+
+add-result-2 : tie.Need-add-result-2
+add-result-2 c = omega (arith, totals-fit c)
 
 enum-known-r-2 : tie.Need-enum-known-r-2
 enum-known-r-2 c = search needs
@@ -47,4 +53,4 @@ returns-2 c =
 pub stream-code-spec : {M : Type 1} → statement M
 stream-code-spec =
     tie.close
-    (tie.spec enum-known-r mul-high add-result enum-known-r-2 stream-number-requires refusal-code-requires returns returns-2)
+    (tie.spec enum-known-r mul-high mul-middle add-result add-result-2 enum-known-r-2 stream-number-requires refusal-code-requires returns returns-2)

@@ -9,6 +9,7 @@ use Rattle.packing.specs.declared.Opening.{Opening}
 use Rattle.packing.specs.Bins.{stored}
 use Rattle.packing.specs.Limits.{within}
 use Rattle.packing.proofs.Limits.{within-limits, limits-within}
+use Rattle.packing.proofs.Looks.{looks-zero, looks-above}
 use Rattle.packing.proofs.Decided.{is-zero, is-above, decides}
 use Rattle.engine.proofs.Ways.{refused-so, done-refused}
 use Rattle.engine.proofs.place.Statement.{statement}
@@ -26,7 +27,7 @@ module _ (c : tie.After-is-within) where
   abbrev start : tie.Start
   start = c .before .before
 
-  tested : within 1 (start .args .opening .capacity - start .args .opening .trailer) (start .args .size) ≡ c .is-within .result
+  tested : within 1 (start .args .terms .opening .capacity - start .args .terms .opening .trailer) (start .args .size) ≡ c .is-within .result
   tested = rw (← c .before .largest .ensures) (sym (c .is-within .ensures))
 
 largest-requires : tie.Need-largest-requires
@@ -51,7 +52,7 @@ returns-2 : tie.Need-returns-2
 returns-2 c =
     let below = c .before .before in
     rw (c .refuse .ensures)
-    (done-refused (start (below .before) .pre .sound) (λ p r. refused-so _ _ p _ _ (decides _ p _ _ _ _ (is-zero (c .before .if2 .taken)))))
+    (done-refused (start (below .before) .pre .sound) (λ p r. refused-so _ _ p _ _ (decides _ p _ _ _ _ (is-zero (c .before .if2 .taken)))) (λ p r. sym (looks-zero _ p _ _ (c .before .if2 .taken))))
 
 refuse-requires-2 : tie.Need-refuse-requires-2
 refuse-requires-2 c κs = search needs
@@ -60,9 +61,10 @@ returns-3 : tie.Need-returns-3
 returns-3 c =
     let above = c .before .before in
     let some = c .before .if2 .left in
+    let larger = too-large (start (above .before) .args .terms .opening) _ (tested (above .before) ∙ above .if1 .left) some in
     rw (c .refuse2 .ensures)
-    (done-refused (start (above .before) .pre .sound)
-    (λ p r. refused-so _ _ p _ _ (decides _ p _ _ _ _ (is-above (omega (arith, some)) (too-large (start (above .before) .args .opening) _ (tested (above .before) ∙ above .if1 .left) some)))))
+    (done-refused (start (above .before) .pre .sound) (λ p r. refused-so _ _ p _ _ (decides _ p _ _ _ _ (is-above (omega (arith, some)) larger)))
+    (λ p r. sym (looks-above _ p _ _ larger)))
 
 pub place-spec : {M : Type 1} → statement M
 place-spec =

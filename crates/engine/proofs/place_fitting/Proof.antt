@@ -4,17 +4,20 @@ use Prim.Native.Nat.{ℕ, _<_}
 use native.Mathlib.Omega.{arith}
 use borrow.Author.Needs.{needs}
 use Rattle.packing.specs.SizeClasses.{sizeClass, numberOf}
-use Rattle.packing.specs.Bins.{stored}
+use Rattle.packing.specs.declared.Command.the-variants.{Shelve}
+use Rattle.packing.specs.Bins.{Packing, stored}
+use Rattle.packing.specs.Run.{looksTo}
+use Rattle.packing.proofs.Looks.{looks-by}
 use Rattle.aim.specs.Aims.{treesWith, treeFor}
 use Rattle.aim.proofs.Aiming.{a-few, home-positive}
 use Rattle.ledger.specs.Rows.{classIn}
 use Rattle.ledger.proofs.Few.{few-held}
 use Rattle.engine.specs.declared.{Spot.Spot, Offer.Offer}
 use Rattle.engine.specs.declared.Offer.the-variants.{Here, Spent}
-use Rattle.engine.specs.Store.{store, Sound}
+use Rattle.engine.specs.Store.{store, Represents, Sound}
 use Rattle.engine.specs.Spots.{spotFor}
 use Rattle.engine.proofs.Aimed.{Aimed, tree-few, home-few, phase-few}
-use Rattle.engine.proofs.Spotted.{Says, says}
+use Rattle.engine.proofs.Spotted.{Says, says, looked}
 use Rattle.engine.proofs.Ways.{refused-so, done-refused, done-placed}
 use Rattle.engine.proofs.place_fitting.Statement.{statement}
 use Rattle.engine.proofs.place_fitting.Tie as tie
@@ -22,51 +25,65 @@ use Rattle.engine.proofs.place_fitting.Tie as tie
 -- Before the search: the item and its tree.
 module _ (e : tie.After-tree-for) where
   abbrev start : tie.Start
-  start = e .before .before
+  start = e .before .before .before
 
-  sound : Sound (start .args .opening) (start .args .shape) (store (start .args .trees .now) (start .args .ledger .now) (start .args .notes .now) (start .args .counters))
+  sound : Sound (start .args .terms .opening) (start .args .terms .shape) (store (start .args .trees .now) (start .args .ledger .now) (start .args .notes .now) (start .args .counters))
   sound = start .pre .0 .sound
 
   -- The stored size of the item.
   abbrev size : ℕ
-  size = stored (start .args .opening) (start .args .size)
+  size = stored (start .args .terms .opening) (start .args .size)
 
   -- The tree for the next B2 is that of the phase.
-  tree-is : e .tree-for .result ≡ treeFor (sizeClass (start .args .opening .capacity) size) (start .args .counters .phase) (start .args .opening .m)
+  tree-is : e .tree-for .result ≡ treeFor (sizeClass (start .args .terms .opening .capacity) size) (start .args .counters .phase) (start .args .terms .opening .m)
   tree-is =
       e .tree-for .ensures
-      ∙ ap (λ (b2 : ℕ). numberOf (treesWith b2) (sizeClass (start .args .opening .capacity) size)) (sound .b2)
+      ∙ ap (λ (b2 : ℕ). numberOf (treesWith b2) (sizeClass (start .args .terms .opening .capacity) size)) (sound .b2)
 
-  aimed : Aimed (start .args .opening) (start .args .counters) size (e .tree-for .result)
+  aimed : Aimed (start .args .terms .opening) (start .args .counters) size (e .tree-for .result)
   aimed = record { some = omega (arith, start .pre .1 .0); fits = start .pre .1 .1; phase = sound .phase; tree = tree-is }
 
   -- What the search says of the item, by what it has for it.
   abbrev Said : Offer → Type 0
-  Said = Says (start .args .opening) (start .args .left) (start .args .shape) (store (start .args .trees .now) (start .args .ledger .now) (start .args .notes .now) (start .args .counters)) (start .args .number) size (e .tree-for .result)
+  Said = Says (start .args .terms .opening) (start .args .terms .left) (start .args .terms .shape) (store (start .args .trees .now) (start .args .ledger .now) (start .args .notes .now) (start .args .counters)) (start .args .number) size (e .tree-for .result)
 
   said : {offer : Offer}
-      → spotFor (start .args .opening) (start .args .left) (start .args .shape) (start .args .trees .now) (start .args .counters .opened) (e .tree-for .result) size ≡ offer
+      → spotFor (start .args .terms .opening) (start .args .terms .left) (start .args .terms .shape) (start .args .trees .now) (start .args .counters .opened) (e .tree-for .result) size ≡ offer
       → Said offer
-  said has = subst Said has (says aimed (start .args .left) (start .args .number) (start .pre .0 .left-few) sound)
+  said has = subst Said has (says aimed (start .args .terms .left) (start .args .number) (start .pre .0 .left-few) sound)
+
+-- The looks are the model's: it passes the checks before 10.
+looks-are : (f : tie.After-find-spot) → let e = f .before .before in
+    (p : Packing) → Represents (start e .args .terms .opening) (store (start e .args .trees .now) (start e .args .ledger .now) (start e .args .notes .now) (start e .args .counters)) p
+    → f .find-spot .result .looks .count ≡ looksTo (start e .args .terms .opening) p (start e .args .number) (Shelve (start e .args .size))
+looks-are f p r =
+    let e = f .before .before in
+    f .find-spot .ensures .counted ∙ looked (aimed e) (start e .args .number) (sound e) p r ∙ sym (looks-by (start e .args .terms .opening) p _ _ (start e .pre .1 .0) (start e .pre .1 .1))
 
 -- It has none.
 module _ (c : tie.After-enum-told) where
+  abbrev sought : tie.After-find-spot
+  sought = c .before .before .before
+
   abbrev missed : tie.After-tree-for
-  missed = c .before .before .before .before
+  missed = sought .before .before
 
   none : Said missed Spent
-  none = said missed (sym (c .before .before .find-spot .ensures) ∙ c .enum-told .given .1)
+  none = said missed (sym (sought .find-spot .ensures .offer-is) ∙ c .enum-told .given .1)
 
 -- It has a spot.
 module _ (c : tie.After-known-told) where
+  abbrev found : tie.After-find-spot
+  found = c .before .before .before .before
+
   abbrev searched : tie.After-tree-for
-  searched = c .before .before .before .before .before
+  searched = found .before .before
 
   abbrev spot : Spot
   spot = c .before .offer .given .0 .0
 
   spotted : Said searched (Here spot)
-  spotted = said searched (sym (c .before .before .before .find-spot .ensures) ∙ c .before .offer .given .1)
+  spotted = said searched (sym (found .find-spot .ensures .offer-is) ∙ c .before .offer .given .1)
 
   few : spot .place < 512
   few = omega (arith, spotted .inside, sound searched .index .forest .few)
@@ -82,7 +99,7 @@ cast-stored : tie.Need-cast-stored
 cast-stored c = search needs
 
 add-stored : tie.Need-add-stored
-add-stored c = omega (arith, c .before .pre .1 .1, c .before .pre .0 .sound .capacity)
+add-stored c = omega (arith, c .before .before .pre .1 .1, c .before .before .pre .0 .sound .capacity)
 
 tree-for-requires : tie.Need-tree-for-requires
 tree-for-requires c κs = search needs
@@ -102,7 +119,7 @@ refuse-requires : tie.Need-refuse-requires
 refuse-requires c κs = search needs
 
 returns : tie.Need-returns
-returns c = rw (c .refuse .ensures) (done-refused (sound (missed (c .before))) (λ p r. refused-so _ _ p _ _ (none (c .before) p r _ (start (missed (c .before)) .pre .1 .0))))
+returns c = rw (c .refuse .ensures) (done-refused (sound (missed (c .before))) (λ p r. refused-so _ _ p _ _ (none (c .before) p r _ (start (missed (c .before)) .pre .1 .0))) (looks-are (sought (c .before))))
 
 home-of-requires : tie.Need-home-of-requires
 home-of-requires c κs = search needs
@@ -158,19 +175,23 @@ show-requires c κs =
       class-few = omega (arith, class-entered entered, class-few classed);
     }
 
+give-requires : tie.Need-give-requires
+give-requires c κs = search needs
+
 returns-2 : tie.Need-returns-2
 returns-2 c =
-    let entered = c .before .before in
+    let shown = c .before in
+    let entered = shown .before .before in
     let accepted = entered .before .before in
     let marked = accepted .before in
     let classed = marked .before in
     let told = classed .before in
     let e = searched told in
-    rw (accepted .accept .ensures)
-    (done-placed (start e .pre .1 .0) (aimed e) (rw (classed .home-of .ensures, marked .a-for .ensures) at (entered .enter .ensures)) (c .show .ensures) (few told) _ (start e .pre .0) (spotted told))
+    rw (c .give .ensures, accepted .accept .ensures)
+    (done-placed (start e .pre .1 .0) (aimed e) (rw (classed .home-of .ensures, marked .a-for .ensures) at (entered .enter .ensures)) (shown .show .ensures) (few told) _ _ (start e .pre .0) (spotted told) (looks-are (found told)))
 
 pub place-fitting-spec : {M : Type 1} → statement M
 place-fitting-spec =
     tie.close
     (tie.spec cast-stored add-stored tree-for-requires find-spot-requires enum-known-offer enum-told refuse-requires returns home-of-requires cast-class a-for-requires accept-requires add-bin
-    cast-bin enter-requires cast-lies mul-note element-set-from-note show-requires returns-2)
+    cast-bin enter-requires cast-lies mul-note element-set-from-note show-requires give-requires returns-2)

@@ -1,10 +1,13 @@
 -- `refuse` meets its contract.
-use mathlib.Core.Path.{refl}
+use borrow.Author.Needs.{needs}
 use Rattle.engine.proofs.refuse.Statement.{statement}
 use Rattle.engine.proofs.refuse.Tie as tie
 
+give-requires : tie.Need-give-requires
+give-requires c κs = search needs
+
 returns : tie.Need-returns
-returns c = refl
+returns c = c .give .ensures
 
 pub refuse-spec : {M : Type 1} → statement M
-refuse-spec = tie.close (tie.spec returns)
+refuse-spec = tie.close (tie.spec give-requires returns)

@@ -12,7 +12,8 @@ use Rattle.packing.specs.Streams.{verdict}
 use Rattle.packing.specs.Run.{answers, result}
 use Rattle.text.specs.Lines.{line}
 use Rattle.text.proofs.Rows.{at-front, wrote-both}
-use Rattle.report.specs.Lines.{lines, answersText, refusal, printed, mostOfALine}
+use Rattle.answer_lines.specs.Lines.{lines, mostOfALine}
+use Rattle.report.specs.Lines.{answersText, refusal, printed}
 use Rattle.report.proofs.Texts.{printing-long, printing-refused, listable, totals-few, printed-accepted}
 use Rattle.report.proofs.print.Statement.{statement}
 use Rattle.report.proofs.print.Tie as tie
@@ -66,14 +67,17 @@ items c = c .items .given .0 .0
 abbrev bins : tie.After-items → ℕ
 bins c = c .items .given .0 .1 .0
 
-returned : (c : tie.After-items) → Accepted (items c) (bins c) ≡ result (verdict (start (accepted-at c) .args .stream .now) mostCommands)
+abbrev looks : tie.After-items → ℕ
+looks c = c .items .given .0 .1 .1 .0
+
+returned : (c : tie.After-items) → Accepted (items c) (bins c) (looks c) ≡ result (verdict (start (accepted-at c) .args .stream .now) mostCommands)
 returned c = sym (c .items .given .1) ∙ accepted-at c .shelve .ensures .0
 
 put-answers-requires : tie.Need-put-answers-requires
 put-answers-requires c κs =
     let i = c .before .before .before .before in
     let r = accepted-at i in
-    listable (start r .args .stream .now) (items i) (bins i) (returned i) (r .shelve .last .1 .0) _ (r .shelve .last .1 .1 .0) _ (start r .args .out .now) (r .shelve .ensures .1 .0)
+    listable (start r .args .stream .now) (items i) (bins i) (looks i) (returned i) (r .shelve .last .1 .0) _ (r .shelve .last .1 .1 .0) _ (start r .args .out .now) (r .shelve .ensures .1 .0)
     (r .shelve .ensures .1 .1)
     (omega (arith, c .put-answers-arg .given .0 .1))
 
@@ -82,18 +86,18 @@ abbrev items-at : tie.After-put-answers → tie.After-items
 items-at c = c .before .before .before .before .before
 
 abbrev totals : tie.After-put-answers → List ℕ
-totals c = line (code "T") (items (items-at c) ∷ bins (items-at c) ∷ [])
+totals c = line (code "T") (items (items-at c) ∷ bins (items-at c) ∷ looks (items-at c) ∷ [])
 
 totals-short : (c : tie.After-put-answers) → length (totals c) ≤ mostOfALine
 totals-short c =
     let l = c .put-answers .ensures in
-    totals-few _ _ _ (returned (items-at c)) (l .opening) (l .commands) (l .accepts)
+    totals-few _ _ _ _ (returned (items-at c)) (l .opening) (l .commands) (l .accepts)
 
 all-printed : (c : tie.After-put-answers)
     → printed (start (accepted-at (items-at c)) .args .stream .now) ≡ lines (answers (c .put-answers .ensures .opening) (c .put-answers .ensures .commands)) ++ totals c
 all-printed c =
     let l = c .put-answers .ensures in
-    printed-accepted _ _ _ (returned (items-at c)) (l .opening) (l .commands) (l .accepts) (accepted-at (items-at c) .before .before .before .if1 .left)
+    printed-accepted _ _ _ _ (returned (items-at c)) (l .opening) (l .commands) (l .accepts) (accepted-at (items-at c) .before .before .before .if1 .left)
 
 slice-aggregate-put-line : tie.Need-slice-aggregate-put-line
 slice-aggregate-put-line c = search needs

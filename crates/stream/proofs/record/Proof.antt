@@ -91,23 +91,29 @@ answer-all-requires c κs =
       second-empty = rw (blank .1) (empty-store _ _ rowWords refl (good e) (s .shape-of .ensures));
     }
 
-cast-items0 : tie.Need-cast-items0
-cast-items0 c = search needs
+cast-items : tie.Need-cast-items
+cast-items c = search needs
 
-cast-items1 : tie.Need-cast-items1
-cast-items1 c = search needs
-
-cast-opened0 : tie.Need-cast-opened0
-cast-opened0 c = search needs
-
-cast-opened1 : tie.Need-cast-opened1
-cast-opened1 c = search needs
+cast-items-2 : tie.Need-cast-items-2
+cast-items-2 c = search needs
 
 add-items : tie.Need-add-items
 add-items c = search needs
 
+cast-opened : tie.Need-cast-opened
+cast-opened c = search needs
+
+cast-opened-2 : tie.Need-cast-opened-2
+cast-opened-2 c = search needs
+
 add-opened : tie.Need-add-opened
 add-opened c = search needs
+
+figure-requires : tie.Need-figure-requires
+figure-requires c κs = search needs
+
+cast-looks : tie.Need-cast-looks
+cast-looks c = search needs
 
 returns-2 : tie.Need-returns-2
 returns-2 c =
@@ -122,10 +128,10 @@ same-length-2 : tie.Need-same-length-2
 same-length-2 c = search needs
 
 returns-3 : tie.Need-returns-3
-returns-3 c = ran-result (c .before .before .before .before .before .before .before .before .answer-all .ensures)
+returns-3 c = rw (c .figure .ensures) (ran-result (c .before .before .before .before .before .before .before .before .before .answer-all .ensures))
 
 pub record-spec : {M : Type 1} → statement M
 record-spec =
     tie.close
-    (tie.spec validate-requires enum-known-reason enum-known-opening shorter-requires returns shape-of-requires answer-all-requires cast-items0 cast-items1
-    cast-opened0 cast-opened1 add-items add-opened returns-2 same-length same-length-2 returns-3)
+    (tie.spec validate-requires enum-known-reason enum-known-opening shorter-requires returns shape-of-requires answer-all-requires cast-items cast-items-2 add-items
+    cast-opened cast-opened-2 add-opened figure-requires cast-looks returns-2 same-length same-length-2 returns-3)

@@ -1,5 +1,4 @@
 -- `answer` meets its contract: each command by the function that answers it.
-use native.Mathlib.Omega.{arith}
 use borrow.Author.Needs.{needs}
 use Rattle.stretch.proofs.Told.{done-count, done-switch}
 use Rattle.stretch.proofs.answer.Statement.{statement}
@@ -15,20 +14,22 @@ enum-told : tie.Need-enum-told
 enum-told c = search needs
 
 count-requires : tie.Need-count-requires
-count-requires c κs =
-    let sound = c .before .before .before .pre .sound in
-    record { whole = sound .represents .records .whole; few = omega (arith, sound .stock, sound .index .forest .few) }
+count-requires c κs = search needs
+
+give-requires : tie.Need-give-requires
+give-requires c κs = search needs
 
 enum-known-command-2 : tie.Need-enum-known-command-2
 enum-known-command-2 c = search needs
 
 withdraw-requires : tie.Need-withdraw-requires
-withdraw-requires c κs =
-    let withdraw = c .before .before .before .before in
-    withdraw .before .before .pre .sound
+withdraw-requires c κs = search needs
 
 enum-known-command-3 : tie.Need-enum-known-command-3
 enum-known-command-3 c = search needs
+
+give-requires-2 : tie.Need-give-requires-2
+give-requires-2 c κs = search needs
 
 returns : tie.Need-returns
 returns c =
@@ -37,21 +38,22 @@ returns c =
 
 returns-2 : tie.Need-returns-2
 returns-2 c =
-    let told = c .before .before in
-    rw (told .enum-told .given .1) (done-count (told .before .before .pre .sound) (c .count .ensures))
+    let counted = c .before in
+    let told = counted .before .before in
+    rw (told .enum-told .given .1, c .give .ensures) (done-count (told .before .before .pre .sound) (counted .count .ensures))
 
 returns-3 : tie.Need-returns-3
 returns-3 c =
     let withdraw = c .before .before .before .before .before in
-    rw (withdraw .command2 .given .1) (c .withdraw .ensures _)
+    rw (withdraw .command2 .given .1) (c .withdraw .ensures)
 
 returns-4 : tie.Need-returns-4
 returns-4 c =
-    let switch = c .before in
-    rw (switch .command3 .given .1) (done-switch _ (switch .before .before .pre .sound))
+    let switch = c .before .before in
+    rw (switch .command3 .given .1, c .give2 .ensures) (done-switch _ (switch .before .before .pre .sound))
 
 pub answer-spec : {M : Type 1} → statement M
 answer-spec =
     tie.close
-    (tie.spec enum-known-command place-requires enum-told count-requires enum-known-command-2 withdraw-requires enum-known-command-3 returns returns-2 returns-3
-    returns-4)
+    (tie.spec enum-known-command place-requires enum-told count-requires give-requires enum-known-command-2 withdraw-requires enum-known-command-3 give-requires-2
+    returns returns-2 returns-3 returns-4)

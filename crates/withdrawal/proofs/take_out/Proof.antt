@@ -10,7 +10,7 @@ use Rattle.withdrawal.proofs.take_out.Tie as tie
 
 -- The bin's number is small.
 few : (s : tie.Start) → binIn (noteAt (s .args .notes .now) (s .args .named)) < 513
-few s = omega (arith, in-stock (s .pre), s .pre .sound .stock, s .pre .sound .index .forest .few)
+few s = omega (arith, in-stock (s .pre), s .pre .sound .fitted .enough, s .pre .sound .index .forest .few)
 
 mul-note : tie.Need-mul-note
 mul-note c = search needs
@@ -57,13 +57,17 @@ show-freed-requires c κs =
     let marked = leaves .before .before .before in
     freed (marked .before .before .pre) (rw (marked .a-of .ensures, only-a) at (leaves .leave .ensures))
 
+give-requires : tie.Need-give-requires
+give-requires c κs = search needs
+
 returns : tie.Need-returns
-returns c left =
-    let leaves = c .before .before in
+returns c =
+    let shown = c .before in
+    let leaves = shown .before .before in
     let counted = leaves .before .before in
     let marked = counted .before in
-    rw (counted .withdraw .ensures)
-    (done-withdrawn (marked .before .before .pre) (rw (marked .a-of .ensures, only-a) at (leaves .leave .ensures)) (c .show-freed .ensures) _ left)
+    rw (c .give .ensures, counted .withdraw .ensures)
+    (done-withdrawn (marked .before .before .pre) (rw (marked .a-of .ensures, only-a) at (leaves .leave .ensures)) (shown .show-freed .ensures) _ _)
 
 pub take-out-spec : {M : Type 1} → statement M
 take-out-spec =
@@ -83,4 +87,5 @@ take-out-spec =
     element-set-from-none
     array-read-free
     show-freed-requires
+    give-requires
     returns)

@@ -1,4 +1,5 @@
 -- `withdraw` meets its contract: 17 for a number past the notes and for one whose note has no bin; else the item is taken out.
+use mathlib.Core.Path.{refl}
 use native.Mathlib.Omega.{arith}
 use borrow.Author.Needs.{needs}
 use Rattle.engine.proofs.Ways.{done-refused}
@@ -10,7 +11,7 @@ refuse-requires : tie.Need-refuse-requires
 refuse-requires c κs = search needs
 
 returns : tie.Need-returns
-returns c left = rw (c .refuse .ensures) (done-refused (c .before .before .pre) (λ p r. past-notes r _ (c .before .if1 .taken)))
+returns c = rw (c .refuse .ensures) (done-refused (c .before .before .pre) (λ p r. past-notes r _ (c .before .if1 .taken)) (λ p r. refl))
 
 mul-note : tie.Need-mul-note
 mul-note c = search needs
@@ -25,9 +26,9 @@ refuse-requires-2 : tie.Need-refuse-requires-2
 refuse-requires-2 c κs = search needs
 
 returns-2 : tie.Need-returns-2
-returns-2 c left =
+returns-2 c =
     let start = c .before .before .before .before in
-    rw (c .refuse2 .ensures) (done-refused (start .pre) (λ p r. no-bin r _ (c .before .if2 .taken)))
+    rw (c .refuse2 .ensures) (done-refused (start .pre) (λ p r. no-bin r _ (c .before .if2 .taken)) (λ p r. refl))
 
 take-out-requires : tie.Need-take-out-requires
 take-out-requires c κs =

@@ -1,0 +1,73 @@
+// The lines of the answers to an accepted stream: its commands are walked once more, each beside its words in both rows.
+use limits::MOST_COMMANDS;
+use packing::Answer;
+use packing::Outcome;
+ghost use Rattle.text.specs.Writing.{Room, Wrote};
+ghost use Rattle.answer_lines.specs.Lines.{answerLine};
+ghost use Rattle.answer_lines.specs.Writing.{Listable, Listed};
+
+// The line of an answer.
+fn put_answer(out: &mut [u8], at: usize, answer: Answer) -> usize
+    requires { ⌜ Room (now out) at (answerLine answer) ⌝ }
+    ensures { λ r. ⌜ Wrote (now (out .entry)) at (answerLine answer) r (now (out .exit)) ⌝ }
+{
+    let number = answer.number;
+    let outcome = answer.outcome;
+    match outcome {
+        Outcome::Placed { bin, free } => {
+            let bin = bin as usize;
+            let free = free as usize;
+            let figures = [number, bin, free];
+            text::put_line(out, at, b'P', &figures)
+        }
+        Outcome::Counted(opened) => {
+            let opened = opened as usize;
+            let figures = [number, opened];
+            text::put_line(out, at, b'C', &figures)
+        }
+        Outcome::Withdrawn { bin, free: _ } => {
+            let bin = bin as usize;
+            let figures = [number, bin];
+            text::put_line(out, at, b'O', &figures)
+        }
+        Outcome::Switched(production) => {
+            let production = refusals::production_number(production) as usize;
+            let figures = [number, production];
+            text::put_line(out, at, b'S', &figures)
+        }
+        Outcome::Refused(reason) => {
+            let refusal = refusals::item_number(reason) as usize;
+            let figures = [number, refusal];
+            text::put_line(out, at, b'R', &figures)
+        }
+    }
+}
+
+// The lines of all commands, in their order, from the front of the row on. The words of a command's number tell its answer.
+pub fn put_answers(
+    stream: &[u8],
+    words: &[u16; MOST_COMMANDS],
+    free: &[u32; MOST_COMMANDS],
+    out: &mut [u8],
+) -> usize
+    requires { ⌜ Listable (now stream) (now words) (now free) (now out) ⌝ }
+    ensures { λ r. ⌜ Listed (now (stream .entry)) (now (out .entry)) r (now (out .exit)) ⌝ }
+{
+    let mut rest = reader::behind_opening(stream);
+    let mut done: usize = 0;
+    let mut at: usize = 0;
+    while 0 < rest.len() {
+        let front = fronts::accepted_front(rest);
+        let used = front.width + 1;
+        let command = front.command;
+        let word = words[done];
+        let units = free[done];
+        let outcome = refusals::outcome_of(command, word, units);
+        let number = done + 1;
+        let answer = Answer { number, outcome };
+        at = put_answer(out, at, answer);
+        done = number;
+        rest = &rest[used..];
+    }
+    at
+}
