@@ -30,7 +30,7 @@
  * a row, a result or a refusal is added or changes. Header and libshelf.a must
  * be of one version: nothing checks it.
  */
-#define SHELF_VERSION 5
+#define SHELF_VERSION 6
 
 /*
  * Limits. Capacity, stock and sizes are at least 1; the trailer, and what is
@@ -108,11 +108,25 @@ extern "C" {
  * The commands are numbered through, whichever production they belong to.
  *
  * If the stream is accepted, the result is
- *     masters still shelved * 2^16 + cartridges opened
- * (each below 2^16; bits 32 up are 0 in this version), of both productions
+ *     looks * 2^32 + masters still shelved * 2^16 + cartridges opened
+ * (looks at most 10, the others below 2^16, and bit 63 is 0), of both productions
  * together. Still shelved are the masters accepted and not taken out; opened is
- * every cartridge that was opened, emptied or not. answers[n - 1] holds the answer
- * to command n, where cartridges and masters are those of its production:
+ * every cartridge that was opened, emptied or not; looks are the most that one
+ * search took.
+ *
+ * A master's cartridge is searched for in a tree over the whole stock, also where
+ * the other production has opened some of it. A node has the largest free space of
+ * the permitted cartridges below it, and a look is a reading of one node: of the
+ * root, and while the master fits, of the left half of each level, until one
+ * cartridge is left. So a search takes 1 look if no permitted cartridge has space
+ * (the master then opens a new one, or is refused with 10), and otherwise
+ * shelf_most_looks(stock); it never takes more. Each master makes one search, but
+ * for those refused with 8 or 9, and no other command makes any. The figure is the
+ * largest over the searches of both productions, not their sum, and 0 if none was
+ * made.
+ *
+ * answers[n - 1] holds the answer to command n, where cartridges and masters are
+ * those of its production:
  *     to 02   the number of the cartridge the master lies in, 1 to the stock;
  *             cartridges are numbered in order of opening; or
  *             32768 + 8    the size, without the trailer, is 0
@@ -267,6 +281,29 @@ static inline uint32_t shelf_items(uint64_t result)
 static inline uint32_t shelf_opened(uint64_t result)
 {
     return result & 0xffffu;
+}
+
+/* Of an accepted stream the most looks of one search; 0 if none was made. */
+static inline uint32_t shelf_looks(uint64_t result)
+{
+    return (result >> 32) & 0x7fffffffu;
+}
+
+/*
+ * The most looks that a search ever takes over this stock, known before the stream
+ * is opened: 1 + h, where h is the least number with 2^h at least the stock. No
+ * stream opens with a stock of 0 or one above SHELF_MAX_STOCK: these are taken for
+ * 1 and for SHELF_MAX_STOCK.
+ */
+static inline uint32_t shelf_most_looks(uint32_t stock)
+{
+    uint32_t places = 1, looks = 1;
+
+    while (places < stock && places < SHELF_MAX_STOCK) {
+        places *= 2;
+        looks++;
+    }
+    return looks;
 }
 
 /*

@@ -1,6 +1,6 @@
-/* A panel's round: open a shelf for masters with trailers, shelve those of two
- * productions, take a master out again, read the answers, print the vault sheet,
- * check plans. */
+/* A panel's round: know how far a search can go, open a shelf for masters with
+ * trailers, shelve those of two productions, take a master out again, read the
+ * answers, print the vault sheet, check plans. */
 
 #include <inttypes.h>
 #include <stdio.h>
@@ -111,6 +111,7 @@ int main(void)
     int production = 0;
     size_t i;
 
+    printf("no search takes more than %" PRIu32 " looks\n", shelf_most_looks(STOCK));
     put(OPEN, 1);
     put(CAPACITY, 4);
     put(STOCK, 2);
@@ -152,8 +153,9 @@ int main(void)
             printf("%" PRIu16 " cartridges opened\n", answers[i]);
         }
     }
-    printf("%" PRIu32 " masters in %" PRIu32 " cartridges\n",
-           shelf_items(result), shelf_opened(result));
+    printf("%" PRIu32 " masters in %" PRIu32 " cartridges, the longest search %" PRIu32
+           " looks\n",
+           shelf_items(result), shelf_opened(result), shelf_looks(result));
     print_sheet();
 
     /* The masters still shelved, in their stored sizes, and where they lie are a

@@ -6,8 +6,8 @@
 #include "shelf.h"
 #include "shelf.h"
 
-#if SHELF_VERSION != 5
-#error "these are the checks of version 5"
+#if SHELF_VERSION != 6
+#error "these are the checks of version 6"
 #endif
 
 #if SHELF_MIN_M > SHELF_MAX_M || SHELF_MAX_CAPACITY < SHELF_MAX_SHEET_STREAM
@@ -23,14 +23,23 @@ int check_header(void);
 /* The line of the first check that fails, or 0. */
 int check_header(void)
 {
-    const uint64_t accepted = 0x0000000010000200u;
-    const uint64_t with_more = 0x7fffffff10000200u;
+    const uint64_t accepted = 0x0000000a10000200u;
+    const uint64_t widest = 0x7fffffffffffffffu;
     const uint64_t no_words = 0x800000070000500au;
     const uint64_t no_production = 0x8000001200000008u;
     const uint64_t last_plan = 0x80000010ffffffffu;
     static const uint16_t figures[] = {0, 1, SHELF_MAX_STOCK, 0x7fff};
+    static const uint32_t stocks[] = {1, 2, 4, 8, 16, 32, 64, 128, 256, 512};
     uint32_t number, other;
     size_t i;
+
+    for (i = 0; i < sizeof stocks / sizeof *stocks; i++) {
+        CHECK(shelf_most_looks(stocks[i]) == i + 1);
+        CHECK(shelf_most_looks(stocks[i] + 1) == (i < 9 ? i + 2 : 10));
+        CHECK(i < 2 || shelf_most_looks(stocks[i] - 1) == i + 1);
+    }
+    CHECK(shelf_most_looks(0) == 1);
+    CHECK(shelf_most_looks(UINT32_MAX) == 10);
 
     CHECK(shelf_most_opened(0) == 0);
     CHECK(shelf_most_opened(1) == 3);
@@ -44,12 +53,14 @@ int check_header(void)
     CHECK(shelf_refusal(accepted) == 0);
     CHECK(shelf_items(accepted) == SHELF_MAX_COMMANDS);
     CHECK(shelf_opened(accepted) == SHELF_MAX_STOCK);
+    CHECK(shelf_looks(accepted) == 10);
 
-    /* What stands above the two figures is not taken for them. */
-    CHECK(!shelf_is_refused(with_more));
-    CHECK(shelf_refusal(with_more) == 0);
-    CHECK(shelf_items(with_more) == SHELF_MAX_COMMANDS);
-    CHECK(shelf_opened(with_more) == SHELF_MAX_STOCK);
+    /* None of the figures is taken for another. */
+    CHECK(!shelf_is_refused(widest));
+    CHECK(shelf_refusal(widest) == 0);
+    CHECK(shelf_looks(widest) == 0x7fffffff && shelf_looks(0xffffffff) == 0);
+    CHECK(shelf_items(widest) == 0xffff && shelf_items(0x7fffffff0000ffffu) == 0);
+    CHECK(shelf_opened(widest) == 0xffff && shelf_opened(0x7fffffffffff0000u) == 0);
 
     CHECK(shelf_is_refused(no_words));
     CHECK(shelf_refusal(no_words) == SHELF_REFUSAL_TOO_FEW_WORDS);

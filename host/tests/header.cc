@@ -61,6 +61,7 @@ int check_header()
 
     CHECK(!shelf_is_refused(result));
     CHECK(shelf_items(result) == 0 && shelf_opened(result) == 1);
+    CHECK(shelf_looks(result) == 1 && shelf_most_looks(1) == 1);
     CHECK(!shelf_answer_is_refused(answers[0]));
     CHECK(answers[0] == 1 && free_units[0] == 25);
     CHECK(shelf_answer_refusal(answers[1]) == SHELF_REFUSAL_STOCK_SPENT);

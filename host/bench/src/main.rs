@@ -23,7 +23,7 @@ use std::process::ExitCode;
 use std::time::Instant;
 
 use mixes::{Mix, MIXES};
-use shelf::StreamBuilder;
+use shelf::{StreamBuilder, Totals};
 
 /// How often `--once` shelves the stream.
 const REPEATS: u32 = 20;
@@ -44,7 +44,11 @@ const CONTESTANTS: [(&str, Engine); 3] = [
 /// The library through its wrapper, as a Rust program would call it.
 fn library(stream: &[u8], answers: &mut [u16], free: &mut [u32]) -> u64 {
     match shelf::shelve(stream, answers, free) {
-        Ok(totals) => u64::from(totals.items) << 16 | u64::from(totals.opened),
+        Ok(Totals {
+            items,
+            opened,
+            looks,
+        }) => u64::from(looks) << 32 | u64::from(items) << 16 | u64::from(opened),
         Err(refusal) => panic!("{refusal}"),
     }
 }
@@ -159,19 +163,32 @@ fn median(mut figures: Vec<f64>) -> f64 {
     figures[figures.len() / 2]
 }
 
-/// A contestant that answers otherwise has nothing to compare.
+/// A contestant that answers otherwise has nothing to compare. The scan has no
+/// nodes to look at, so its result is all but the looks.
 fn check_agreement(mix: &Mix, stream: &StreamBuilder) {
-    let answers: Vec<_> = CONTESTANTS
-        .iter()
-        .map(|(_, engine)| {
-            let (mut answers, mut free) = stream.rows();
-            let totals = engine(stream.bytes(), &mut answers, &mut free);
-            (totals, answers, free)
-        })
-        .collect();
+    let [library, tree, scan] = CONTESTANTS.map(|(_, engine)| {
+        let (mut answers, mut free) = stream.rows();
+        let result = engine(stream.bytes(), &mut answers, &mut free);
+        (result, answers, free)
+    });
+    assert!(tree == library, "tree and library differ on {}", mix.name);
+    let (result, answers, free) = library;
+    let without_looks = (result & 0xFFFF_FFFF, answers, free);
     assert!(
-        answers.iter().all(|answer| *answer == answers[0]),
-        "the contestants differ on {}",
+        scan == without_looks,
+        "scan and library differ on {}",
         mix.name
     );
+}
+
+#[cfg(test)]
+mod tests {
+    use super::*;
+
+    #[test]
+    fn the_contestants_agree() {
+        for mix in &MIXES {
+            check_agreement(mix, &mix.stream(1));
+        }
+    }
 }

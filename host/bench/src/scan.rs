@@ -1,5 +1,6 @@
-//! The same answers by trying the bins one after another. Streams must be well
-//! formed and the rows long enough: this one is here to be timed, not trusted.
+//! The same answers by trying the bins one after another, without looks, as there
+//! are no nodes. Streams must be well formed and the rows long enough: this one is
+//! here to be timed, not trusted.
 
 struct Bin {
     class: u8,

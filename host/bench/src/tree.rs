@@ -37,11 +37,7 @@ impl Store {
         trees: [[0; 2 * MAX_LEAVES]; 5],
         rows: [[0; 4]; MAX_LEAVES],
         items: [(0, 0); MAX_COMMANDS],
-        counts: Counts {
-            opened: 0,
-            b2_since_m: 0,
-            shelved: 0,
-        },
+        counts: Counts::NONE,
     };
 }
 
@@ -51,18 +47,32 @@ struct Counts {
     /// B2 items since the last m-th.
     b2_since_m: u32,
     shelved: u64,
+    /// The most looks of a search.
+    looks: u64,
 }
 
-/// The first leaf with space for this size; the root must have it.
+impl Counts {
+    const NONE: Self = Self {
+        opened: 0,
+        b2_since_m: 0,
+        shelved: 0,
+        looks: 0,
+    };
+}
+
+/// The first leaf with space for this size, and the looks at left halves on the
+/// way; the root must have it.
 // Not inlined: the loop then has all the registers.
 #[inline(never)]
-fn find(tree: &Tree, leaves: usize, size: u32) -> usize {
+fn find(tree: &Tree, leaves: usize, size: u32) -> (usize, u64) {
     let mut node = 1;
+    let mut looks = 0;
     while node < leaves {
+        looks += 1;
         // The mask changes nothing, and is cheaper than a check of bounds.
         node = 2 * node + usize::from(tree[2 * node % tree.len()] < size);
     }
-    node
+    (node, looks)
 }
 
 /// Sets a leaf's free space, and the maxima above as far as they change.
@@ -269,11 +279,10 @@ fn shelve_and_enter(
         let opened_by_other = other.as_ref().map_or(0, |other| other.counts.opened);
         answer_stretch(&opening, opening.stock - opened_by_other, own, &mut at);
         let [0x05, to, ref after @ ..] = *at.rest else {
-            let Counts {
-                opened, shelved, ..
-            } = own.counts;
-            let shelved_by_other = other.map_or(0, |other| other.counts.shelved);
-            return (shelved + shelved_by_other) << 16 | (opened + opened_by_other) as u64;
+            let (own, other) = (own.counts, other.map_or(Counts::NONE, |other| other.counts));
+            let looks = own.looks.max(other.looks);
+            let shelved = own.shelved + other.shelved;
+            return looks << 32 | shelved << 16 | (own.opened + other.opened) as u64;
         };
         at.rest = after;
         at.answer((to.into(), 0));
@@ -323,6 +332,7 @@ fn answer_stretch(opening: &Opening, own_stock: usize, own: &mut Store, at: &mut
         mut opened,
         mut b2_since_m,
         mut shelved,
+        mut looks,
     } = own.counts;
     let mut rest = at.rest;
     let words = at.answers[at.answered..].iter_mut();
@@ -381,8 +391,11 @@ fn answer_stretch(opening: &Opening, own_stock: usize, own: &mut Store, at: &mut
         let Store {
             trees, rows, items, ..
         } = &mut *own;
+        // One look at the root.
+        looks = looks.max(1);
         let (leaf, free) = if trees[tree][1] >= size {
-            let leaf = find(&trees[tree], leaves, size);
+            let (leaf, further) = find(&trees[tree], leaves, size);
+            looks = looks.max(1 + further);
             (leaf, trees[tree][leaf % (2 * MAX_LEAVES)] - size)
         } else if opened < own_stock {
             opened += 1;
@@ -420,6 +433,7 @@ fn answer_stretch(opening: &Opening, own_stock: usize, own: &mut Store, at: &mut
         opened,
         b2_since_m,
         shelved,
+        looks,
     };
     at.rest = rest;
 }
@@ -428,6 +442,7 @@ fn answer_stretch(opening: &Opening, own_stock: usize, own: &mut Store, at: &mut
 mod tests {
     use super::*;
     use crate::mixes::{Mix, MIXES};
+    use crate::Engine;
     use shelf::{Answer, Command, Opening, Production, StreamBuilder};
 
     /// A stream of the mix, its answers and the rows of either production.
@@ -513,7 +528,7 @@ mod tests {
         }
         let (mut words, mut free) = stream.rows();
         let result = shelve(stream.bytes(), &mut words, &mut free);
-        assert_eq!((result, &words[..4]), (1, &[1, 0x8009, 1, 1][..]));
+        assert_eq!((result, &words[..4]), (1 << 32 | 1, &[1, 0x8009, 1, 1][..]));
         assert_eq!((words[4..].to_vec(), free[3]), (vec![0x8011; 10], 60));
     }
 
@@ -526,10 +541,11 @@ mod tests {
         stream.switch(Second).shelve(20).count().withdraw(4);
         stream.switch(First).count().withdraw(1);
         let expected = [1, 1, 0x8011, 1, 0, 0x8011, 0, 2, 1, 0x800A, 1, 1, 0, 2, 1];
-        for engine in [shelve, crate::scan::shelve] {
+        for (engine, looks) in [(shelve as Engine, 1), (crate::scan::shelve, 0)] {
             let (mut words, mut free) = stream.rows();
             let result = engine(stream.bytes(), &mut words, &mut free);
-            assert_eq!((result, &words[..]), (1 << 16 | 3, &expected[..]));
+            let totals = looks << 32 | 1 << 16 | 3;
+            assert_eq!((result, &words[..]), (totals, &expected[..]));
             assert_eq!((free[3], free[7], free[11], free[14]), (20, 30, 60, 60));
         }
     }
@@ -589,12 +605,32 @@ mod tests {
                 stream.shelve(size);
             });
             let opened = u64::from(expected.contains(&1));
-            for engine in [shelve, crate::scan::shelve] {
+            for (engine, looks) in [(shelve as Engine, opened), (crate::scan::shelve, 0)] {
                 let (mut words, mut free) = stream.rows();
                 let result = engine(stream.bytes(), &mut words, &mut free);
-                assert_eq!((result, &words[..]), (opened << 16 | opened, &expected[..]));
+                let totals = looks << 32 | opened << 16 | opened;
+                assert_eq!((result, &words[..]), (totals, &expected[..]));
                 assert_eq!(free, [0; 4]);
             }
+        }
+    }
+
+    #[test]
+    fn a_look_is_counted_at_each_level() {
+        for stock in 1..=MAX_LEAVES as u16 {
+            let mut stream = StreamBuilder::open(60, stock, 6);
+            let looks = |stream: &StreamBuilder| {
+                let (mut words, mut free) = stream.rows();
+                shelve(stream.bytes(), &mut words, &mut free) >> 32
+            };
+            stream.shelve(0).shelve(61).count();
+            assert_eq!(looks(&stream), 0);
+            // In the second production the first fits nowhere, the next does.
+            stream.switch(Production::Second).shelve(20);
+            assert_eq!(looks(&stream), 1);
+            stream.shelve(20).switch(Production::First).shelve(60);
+            let most = shelf::most_looks(stock).into();
+            assert_eq!(looks(&stream), most, "stock {stock}");
         }
     }
 

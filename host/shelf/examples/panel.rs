@@ -1,17 +1,20 @@
-//! A panel's round: open a shelf for masters with trailers, shelve those of two
-//! productions, take a master out again, read the answers, print the vault sheet,
-//! check plans.
+//! A panel's round: know how far a search can go, open a shelf for masters with
+//! trailers, shelve those of two productions, take a master out again, read the
+//! answers, print the vault sheet, check plans.
 
 use std::collections::BTreeMap;
 
 use shelf::Production::{First, Second};
-use shelf::{Answer, Command, Entry, Production, StreamBuilder};
+use shelf::{Answer, Command, Entry, Production, StreamBuilder, Totals};
 
 const CAPACITY: u32 = 60;
+const STOCK: u16 = 6;
 const TRAILER: u16 = 1;
 
 fn main() {
-    let mut stream = StreamBuilder::open_with_trailer(CAPACITY, 6, 6, TRAILER);
+    let most = shelf::most_looks(STOCK);
+    println!("no search takes more than {most} looks");
+    let mut stream = StreamBuilder::open_with_trailer(CAPACITY, STOCK, 6, TRAILER);
     for size in [34, 21, 21, 21, 21, 21, 21] {
         stream.shelve(size);
     }
@@ -57,7 +60,12 @@ fn main() {
             _ => unreachable!("an answer is that of its command"),
         }
     }
-    println!("{} masters in {} cartridges", totals.items, totals.opened);
+    let Totals {
+        items,
+        opened,
+        looks,
+    } = totals;
+    println!("{items} masters in {opened} cartridges, the longest search {looks} looks");
     print!("{}", shelf::sheet(stream.bytes()).text());
 
     // They are a plan of their own in each production.

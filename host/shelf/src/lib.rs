@@ -12,6 +12,7 @@
 //! let (mut words, mut free) = stream.rows();
 //! let totals = shelf::shelve(stream.bytes(), &mut words, &mut free).expect("a well-formed stream");
 //! assert_eq!((totals.items, totals.opened), (1, 2)); // still shelved, and opened
+//! assert_eq!(totals.looks, 1); // none of the searches found a bin with space
 //!
 //! let answers = shelf::answers(stream.bytes(), &words, &free);
 //! let answers: Vec<Answer> = answers.map(|(_command, answer)| answer).collect();
@@ -70,6 +71,25 @@ pub const MAX_SHEET_STREAM: usize = 32_768;
 /// The most bytes of a sheet: a line of 41 for each of 512 bins and 12 pages.
 pub const SHEET_BYTES: usize = 21_484;
 
+/// The most [looks](Totals::looks) that a search ever takes over this stock, known
+/// before the stream is opened: `1 + h`, where `h` is the least number with `2^h`
+/// at least the stock. No stream opens with a stock of 0 or one above
+/// [`MAX_STOCK`]: these are taken for 1 and for [`MAX_STOCK`].
+///
+/// ```
+/// use shelf::most_looks;
+///
+/// const BUDGET: u8 = most_looks(shelf::MAX_STOCK);
+/// assert_eq!(BUDGET, 10);
+/// assert_eq!([1, 2, 3, 4, 5].map(most_looks), [1, 2, 3, 3, 4]);
+/// assert_eq!([256, 257, 511, 512].map(most_looks), [9, 10, 10, 10]);
+/// assert_eq!([0, 513, u16::MAX].map(most_looks), [1, 10, 10]);
+/// ```
+pub const fn most_looks(stock: u16) -> u8 {
+    let stock = if stock > MAX_STOCK { MAX_STOCK } else { stock };
+    1 + stock.next_power_of_two().ilog2() as u8
+}
+
 /// The most bins that a production ever opens of which no item was taken out,
 /// where a plan of its items, by stored sizes, that [`check_plan`] passes uses `k`
 /// bins: three times their number is at most `5 * k + 5`. For every `k` from 1 to
@@ -121,6 +141,26 @@ pub struct Totals {
     pub items: u16,
     /// The bins opened, emptied or not.
     pub opened: u16,
+    /// The most looks that one search took: the largest number of all, not their
+    /// sum, and 0 if no search was made.
+    ///
+    /// An item's bin is searched for in a tree over the whole stock, whose nodes
+    /// have the largest free space of the permitted bins below them. A look is a
+    /// reading of one node: of the root, and while the item fits, of the left half
+    /// of each level, until one bin is left. So a search takes 1 look if no
+    /// permitted bin has space, and otherwise [`most_looks`], which is the most.
+    /// Each item makes one search, but for those refused with 8 or 9, and no other
+    /// command makes any.
+    ///
+    /// ```
+    /// let mut stream = shelf::StreamBuilder::open(60, 4, 6);
+    /// stream.shelve(20).shelve(20).shelve(30); // the second fits beside the first
+    /// let (mut words, mut free) = stream.rows();
+    /// let totals = shelf::shelve(stream.bytes(), &mut words, &mut free).unwrap();
+    /// assert_eq!(totals.looks, 3); // the largest of 1, 3 and 1
+    /// assert_eq!(totals.looks, shelf::most_looks(4));
+    /// ```
+    pub looks: u8,
 }
 
 /// One entry of a plan: an item of `size` units lies in bin number `bin`.
@@ -309,6 +349,7 @@ mod tests {
         let none = Totals {
             items: 0,
             opened: 0,
+            looks: 0,
         };
         assert_eq!(shelve(&opening, &mut [], &mut []), Ok(none));
         assert_eq!(check_plan(&[], &[], 1, 0), Ok(()));
@@ -324,7 +365,7 @@ mod tests {
         }
         let (mut words, mut free) = stream.rows();
         let totals = shelve(stream.bytes(), &mut words, &mut free).unwrap();
-        assert_eq!((totals.items, totals.opened), (512, 512));
+        assert_eq!((totals.items, totals.opened, totals.looks), (512, 512, 1));
         assert_eq!((words[511], free[511]), (512, 0));
 
         let mut small = StreamBuilder::open(MAX_CAPACITY, 1, 6);
@@ -333,7 +374,7 @@ mod tests {
         }
         let (mut words, mut free) = small.rows();
         let totals = shelve(small.bytes(), &mut words, &mut free).unwrap();
-        assert_eq!((totals.items, totals.opened), (4096, 1));
+        assert_eq!((totals.items, totals.opened, totals.looks), (4096, 1, 1));
         assert_eq!((free[0], free[4095]), (16_777_215, 16_773_120));
     }
 

@@ -17,8 +17,11 @@ pub fn of_stream(code: u64) -> Option<Result<Totals, StreamRefusal>> {
         let fault = StreamFault::from_number(number)?;
         return Some(Err(StreamRefusal { fault, offset }));
     }
-    let (items, opened) = ((code >> 16) as u16, code as u16);
-    (code >> 32 == 0).then_some(Ok(Totals { items, opened }))
+    Some(Ok(Totals {
+        items: (code >> 16) as u16,
+        opened: code as u16,
+        looks: u8::try_from(code >> 32).ok()?,
+    }))
 }
 
 /// What `shelf_check_plan` returned: a plan passes with 0 and no other number.
@@ -37,10 +40,18 @@ mod tests {
 
     #[test]
     fn bit_63_tells_acceptance() {
-        let totals = |items, opened| Some(Ok(Totals { items, opened }));
-        assert_eq!(of_stream(0), totals(0, 0));
-        assert_eq!(of_stream(4096 << 16 | 512), totals(4096, 512));
-        assert_eq!(of_stream(0xFFFF_FFFF), totals(0xFFFF, 0xFFFF));
+        let totals = |items, opened, looks| {
+            Some(Ok(Totals {
+                items,
+                opened,
+                looks,
+            }))
+        };
+        assert_eq!(of_stream(0), totals(0, 0, 0));
+        let largest = 10 << 32 | 4096 << 16 | 512;
+        assert_eq!(of_stream(largest), totals(4096, 512, 10));
+        assert_eq!(of_stream(0xFFFF_FFFF), totals(0xFFFF, 0xFFFF, 0));
+        assert_eq!(of_stream(0xFF << 32), totals(0, 0, 0xFF));
         let fault = StreamFault::TooFewWords;
         let offset = 0xFFFF_FFFF;
         let refused = Some(Err(StreamRefusal { fault, offset }));
@@ -57,7 +68,7 @@ mod tests {
 
     #[test]
     fn excluded_numbers_are_no_result() {
-        for code in [1 << 32, 7 << 32, REFUSED - 1, REFUSED] {
+        for code in [1 << 40, 0x101 << 32, REFUSED >> 1, REFUSED - 1, REFUSED] {
             assert_eq!(of_stream(code), None);
         }
         for number in [8, 17, 19] {

@@ -2,7 +2,7 @@
 
 use std::fmt::Write;
 
-use shelf::{Answer, Command, Opening, Row};
+use shelf::{Answer, Command, Opening, Row, Totals};
 
 use crate::outcome::{Answered, Outcome, Shelved};
 use crate::packing::Packing;
@@ -37,15 +37,18 @@ fn accepted(shelved: &Shelved) -> String {
     } = shelved.packing.opening;
     let numbered = (1..).zip(&shelved.answers);
     let answers = array(numbered.map(|(number, &answered)| answer(number, answered)));
-    let totals = shelved.totals;
-    let (masters, opened) = (totals.items, totals.opened);
+    let Totals {
+        items,
+        opened,
+        looks,
+    } = shelved.totals;
     let cartridges = cartridges(&shelved.packing);
     format!(
         "{{\n\"accepted\": true,\n\
          \"opening\": {{\"capacity\": {capacity}, \"stock\": {stock}, \"m\": {m}, \
          \"trailer\": {trailer}}},\n\
          \"answers\": {answers},\n\
-         \"totals\": {{\"masters\": {masters}, \"cartridges\": {opened}}},\n\
+         \"totals\": {{\"masters\": {items}, \"cartridges\": {opened}, \"looks\": {looks}}},\n\
          \"cartridges\": {cartridges}\n}}\n"
     )
 }
@@ -154,7 +157,7 @@ mod tests {
 {"command": 8, "production": 1, "withdraw": 6, "refusal": 17, "reason": "no master of that number is on the shelf"},
 {"command": 9, "production": 1, "count": 0}
 ],
-"totals": {"masters": 1, "cartridges": 1},
+"totals": {"masters": 1, "cartridges": 1, "looks": 1},
 "cartridges": [
 {"production": 0, "number": 1, "class": 1, "load": 40, "free": 20, "held": 1, "commands": [6]}
 ]

@@ -92,7 +92,11 @@ impl Shelved {
                 Answer::Refused(refusal) => format!("R {number} {}\n", refusal.number()),
             };
         }
-        let Totals { items, opened } = self.totals;
-        lines + &format!("T {items} {opened}\n")
+        let Totals {
+            items,
+            opened,
+            looks,
+        } = self.totals;
+        lines + &format!("T {items} {opened} {looks}\n")
     }
 }

@@ -7,6 +7,7 @@ use crate::families::{self, Family};
 use crate::figures;
 use crate::free_cases;
 use crate::lists::most_trailer;
+use crate::looks_cases;
 use crate::paper::{size_class, SizeClass, Totals};
 use crate::plans::PlanTrial;
 use crate::production_cases;
@@ -36,6 +37,8 @@ pub struct Case {
     pub answered: &'static [(Command, u16, u32)],
     /// The items still shelved.
     pub items: usize,
+    /// The most looks of a search.
+    pub looks: usize,
     /// What the sheet says of each bin; all are production 0's.
     pub bins: &'static [BinLine],
 }
@@ -108,7 +111,7 @@ impl Cases {
         name: &str,
         stream: &[u8],
         (words, free): (&[u16], &[u32]),
-        (items, opened): (usize, usize),
+        totals: Totals,
     ) {
         for (more, more_free) in [(0, 0), (3, 0), (0, 3), (2, 5)] {
             let lent = Lent {
@@ -116,7 +119,7 @@ impl Cases {
                 free: free.len() + more_free,
             };
             let trial = case(stream.to_vec(), lent);
-            let expected = Outcome::accepted(&trial, Totals { items, opened }, words, free);
+            let expected = Outcome::accepted(&trial, totals, words, free);
             self.both(name, &trial, &expected);
         }
     }
@@ -127,8 +130,8 @@ impl Cases {
         self.shelved_by_both(case, stream, (&words, &free), [case.bins, &[]]);
     }
 
-    /// A stream of this case's name, opening and items still shelved, with these
-    /// words, and these bins of either production on its sheet.
+    /// A stream of this case's name, opening, items still shelved and looks, with
+    /// these words, and these bins of either production on its sheet.
     pub fn shelved_by_both(
         &mut self,
         case: &Case,
@@ -137,13 +140,14 @@ impl Cases {
         bins: [&[BinLine]; PRODUCTIONS],
     ) {
         let opened = bins.iter().map(|bins| bins.len()).sum();
-        self.answered(case.name, stream, words, (case.items, opened));
+        let totals = totals(case.items, opened, case.looks);
+        self.answered(case.name, stream, words, totals);
         let sheet = sheet_cases::sheets(case.opening.capacity, bins);
         self.sheet(case.name, stream.to_vec(), &sheet);
     }
 
     /// The same by the answer words: the free units follow by subtraction.
-    fn accepted(&mut self, name: &str, stream: &[u8], words: &[u16], totals: (usize, usize)) {
+    fn accepted(&mut self, name: &str, stream: &[u8], words: &[u16], totals: Totals) {
         let read = Stream::read(stream).expect("a stream without a fault");
         let free = figures::by_subtraction(&read, words).expect("no bin is overfull");
         self.answered(name, stream, (words, &free), totals);
@@ -153,7 +157,8 @@ impl Cases {
     fn placed(&mut self, name: &str, capacity: u32, sizes: &[u32], bins: &[u16]) {
         let stream = Stream::of_sizes(opening(capacity, 512, 6), sizes);
         let opened = bins.iter().max().copied().unwrap_or(0);
-        self.accepted(name, &stream.bytes(), bins, (sizes.len(), opened.into()));
+        let totals = all_placed(sizes.len(), opened.into());
+        self.accepted(name, &stream.bytes(), bins, totals);
     }
 
     /// A stream that is refused as a whole, at the end of `before`, with so many
@@ -178,6 +183,23 @@ impl Cases {
             None => "library: outside the interface".to_string(),
         });
     }
+}
+
+/// What a stream returns: the items still shelved, the bins opened, and the most
+/// looks of a search.
+pub const fn totals(items: usize, opened: usize, looks: usize) -> Totals {
+    Totals {
+        items,
+        opened,
+        looks,
+    }
+}
+
+/// What a list over a stock of 512 returns of which every item is placed: where
+/// they are more than the bins, one of them fits on a bin opened before.
+pub fn all_placed(items: usize, opened: usize) -> Totals {
+    let looks = if items > opened { 10 } else { items.min(1) };
+    totals(items, opened, looks)
 }
 
 pub fn case(stream: Vec<u8>, lent: Lent) -> StreamTrial {
@@ -245,6 +267,7 @@ pub fn run(program: Option<&Program>) -> Result<Cases, String> {
     withdrawal_cases::run(&mut cases);
     trailer_cases::run(&mut cases);
     production_cases::run(&mut cases);
+    looks_cases::run(&mut cases);
     Ok(cases)
 }
 
@@ -302,7 +325,7 @@ fn worked_shelves(cases: &mut Cases) {
             &[1, 2, 2, 3, 3, 4, 1, r(10), 4, 4],
             &[25, 38, 16, 38, 16, 38, 3, 0, 0, 16],
         ),
-        (8, 4),
+        totals(8, 4, 3),
     );
 }
 
@@ -353,7 +376,7 @@ fn misleading_readings(cases: &mut Cases) {
         "misreading: a refused B2 is counted",
         &sent(opening(60, 3, 6), &refused_b2),
         &[1, 1, 2, 2, 3, r(10), r(10), 3],
-        (5, 3),
+        totals(5, 3, 3),
     );
     // The same with m 9, whose 9th is refused twice; the 10th never comes.
     let mut refused_ninth = vec![Shelve(40)];
@@ -363,7 +386,7 @@ fn misleading_readings(cases: &mut Cases) {
         "a refused 9th B2 with m 9",
         &sent(opening(60, 5, 9), &refused_ninth),
         &[1, 2, 2, 3, 3, 4, 4, 5, 5, r(10), r(10), r(10), 5],
-        (9, 5),
+        totals(9, 5, 4),
     );
 }
 
@@ -449,14 +472,15 @@ fn openings(cases: &mut Cases, trailer: Option<u16>) {
         cases.refused("refusal 5, before a later fault", 5, &[], &faults, 0);
     }
     for good in [(1, 1, 6), (16_777_216, 512, 9)] {
-        cases.accepted("an opening at its limits", &bytes(good), &[], (0, 0));
+        let name = "an opening at its limits";
+        cases.accepted(name, &bytes(good), &[], totals(0, 0, 0));
     }
 }
 
 /// Refusals 6 and 7.
 fn numbers_of_commands(cases: &mut Cases, opening: Opening) {
     let full = sent(opening, &[Count; 4096]);
-    cases.accepted("4,096 commands", &full, &[0; 4096], (0, 0));
+    cases.accepted("4,096 commands", &full, &[0; 4096], totals(0, 0, 0));
 
     let (size, count, out) = (Shelve(22).bytes(), Count.bytes(), Withdraw(1).bytes());
     let [by_01, by_11] = OPENINGS.map(|opening| opening.bytes());
@@ -505,16 +529,16 @@ fn item_refusals(cases: &mut Cases) {
         "refusals 8, 9 and 10 and their order",
         &sent(opening(60, 1, 6), &commands),
         &[r(8), r(9), r(9), 0, 1, r(8), r(9), r(10), r(10), 1],
-        (1, 1),
+        totals(1, 1, 1),
     );
     let spent = sent(opening(10, 512, 7), &[Shelve(10); 513]);
     let words: Vec<u16> = (1..=512).chain([r(10)]).collect();
     let name = "513 masters over a stock of 512";
-    cases.accepted(name, &spent, &words, (512, 512));
+    cases.accepted(name, &spent, &words, totals(512, 512, 1));
 
     let ones = sent(opening(16_777_216, 1, 6), &[Shelve(1); 4096]);
     let name = "4,096 masters in one cartridge";
-    cases.accepted(name, &ones, &[1; 4096], (4096, 1));
+    cases.accepted(name, &ones, &[1; 4096], totals(4096, 1, 1));
 }
 
 /// Refusals 11 and 12.
@@ -623,10 +647,7 @@ fn family(cases: &mut Cases, name: &str, m: u8, family: Family) {
         k,
         opened,
     } = family;
-    let totals = Totals {
-        items: sizes.len(),
-        opened: opened as usize,
-    };
+    let totals = all_placed(sizes.len(), opened as usize);
     let opening = opening(capacity, 512, m).with_trailer(most_trailer(&sizes));
     let stream = Stream::of_stored(opening, &sizes);
     let trial = case(stream.bytes(), Lent::both(sizes.len()));

@@ -4,7 +4,7 @@ use std::fmt;
 use std::panic::{self, AssertUnwindSafe};
 use std::sync::atomic::{AtomicBool, Ordering};
 
-use crate::paper::{self, Totals};
+use crate::paper::{self, Shelved, Totals};
 use crate::plans::PlanTrial;
 use crate::rows::Rows;
 use crate::sheet;
@@ -89,11 +89,15 @@ fn outcome(
 }
 
 pub fn by_paper(trial: &StreamTrial) -> Outcome {
+    by_paper_of(trial, &paper::shelve(&trial.stream))
+}
+
+/// The same, of what the paper makes of the trial's stream.
+pub fn by_paper_of(trial: &StreamTrial, shelved: &Result<Shelved, Refusal>) -> Outcome {
     let stream = &trial.stream;
-    let shelved = paper::shelve(stream);
-    let sheet = Written::text(trial.fill, &sheet::sheet(stream, &shelved));
+    let sheet = Written::text(trial.fill, &sheet::sheet(stream, shelved));
     let answer =
-        |words: &mut [u16], free: &mut [u32]| Some(paper::answer(stream, &shelved, words, free));
+        |words: &mut [u16], free: &mut [u32]| Some(paper::answer(stream, shelved, words, free));
     outcome(trial, answer, sheet)
 }
 
@@ -107,6 +111,7 @@ pub fn by_library(trial: &StreamTrial) -> Outcome {
             Ok(totals) => Ok(Totals {
                 items: totals.items.into(),
                 opened: totals.opened.into(),
+                looks: totals.looks.into(),
             }),
             Err(refusal) => Err(Refusal {
                 number: refusal.fault.number(),
@@ -159,7 +164,11 @@ impl fmt::Display for Outcome {
     fn fmt(&self, f: &mut fmt::Formatter<'_>) -> fmt::Result {
         match self.result {
             None => write!(f, "a result outside the interface")?,
-            Some(Ok(Totals { items, opened })) => write!(f, "accepted {items}, opened {opened}")?,
+            Some(Ok(Totals {
+                items,
+                opened,
+                looks,
+            })) => write!(f, "accepted {items}, opened {opened}, looks {looks}")?,
             Some(Err(Refusal { number, at })) => write!(f, "refused {number} at offset {at}")?,
         }
         // Untouched rows say nothing.

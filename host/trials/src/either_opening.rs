@@ -43,7 +43,7 @@ pub fn fault(trial: &StreamTrial, outcome: &Outcome) -> Option<&'static str> {
 #[cfg(test)]
 mod tests {
     use super::*;
-    use crate::cases::{case, sent};
+    use crate::cases::{case, sent, totals};
     use crate::paper::Totals;
     use crate::rows::Lent;
     use crate::wire::Command::{Count, Shelve, Withdraw};
@@ -76,9 +76,7 @@ mod tests {
         ]
     }
 
-    fn totals(items: usize, opened: usize) -> Totals {
-        Totals { items, opened }
-    }
+    const TOTALS: Totals = totals(0, 1, 1);
 
     #[test]
     fn what_comes_to_something_else_is_found() {
@@ -87,19 +85,21 @@ mod tests {
             let found = |totals: Totals, words: &[u16], free: &[u32]| {
                 fault(&trial, &Outcome::accepted(&trial, totals, words, free))
             };
-            assert_eq!(found(totals(0, 1), &WORDS, &FREE), None);
+            assert_eq!(found(TOTALS, &WORDS, &FREE), None);
             let expected = Some("by the other opening the totals are others");
-            assert_eq!(found(totals(1, 1), &WORDS, &FREE), expected);
+            for wrong in [Totals { items: 1, ..TOTALS }, Totals { looks: 2, ..TOTALS }] {
+                assert_eq!(found(wrong, &WORDS, &FREE), expected, "{wrong:?}");
+            }
             let expected = Some("by the other opening a word of the rows is another");
             for place in 0..WORDS.len() {
                 let mut words = WORDS;
                 words[place] += 1;
-                assert_eq!(found(totals(0, 1), &words, &FREE), expected, "{place}");
+                assert_eq!(found(TOTALS, &words, &FREE), expected, "{place}");
                 let mut free = FREE;
                 free[place] += 1;
-                assert_eq!(found(totals(0, 1), &WORDS, &free), expected, "{place}");
+                assert_eq!(found(TOTALS, &WORDS, &free), expected, "{place}");
             }
-            let mut outcome = Outcome::accepted(&trial, totals(0, 1), &WORDS, &FREE);
+            let mut outcome = Outcome::accepted(&trial, TOTALS, &WORDS, &FREE);
             outcome.sheet = Written::text(trial.fill, "");
             let expected = Some("by the other opening the sheet is another");
             assert_eq!(fault(&trial, &outcome), expected);

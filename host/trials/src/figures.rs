@@ -86,8 +86,7 @@ pub fn fault(trial: &StreamTrial, outcome: &Outcome) -> Option<&'static str> {
 #[cfg(test)]
 mod tests {
     use super::*;
-    use crate::cases::{case, sample};
-    use crate::paper::Totals;
+    use crate::cases::{case, sample, totals};
     use crate::rows::Lent;
     use crate::wire::Command::{Shelve, Switch, Withdraw};
     use crate::wire::{opening, refused_word as r};
@@ -95,11 +94,8 @@ mod tests {
     /// The fault of a stream of which the library says this.
     fn found(stream: Vec<u8>, words: &[u16], free: &[u32]) -> Option<&'static str> {
         let trial = case(stream, Lent::both(words.len()));
-        let totals = Totals {
-            items: 0,
-            opened: 0,
-        };
-        fault(&trial, &Outcome::accepted(&trial, totals, words, free))
+        let outcome = Outcome::accepted(&trial, totals(0, 0, 0), words, free);
+        fault(&trial, &outcome)
     }
 
     #[test]
@@ -125,11 +121,7 @@ mod tests {
     fn what_is_no_sheet_is_found() {
         let stream = Stream::of_sizes(opening(60, 4, 6), &[35]);
         let trial = case(stream.bytes(), Lent::both(1));
-        let totals = Totals {
-            items: 1,
-            opened: 1,
-        };
-        let mut outcome = Outcome::accepted(&trial, totals, &[1], &[25]);
+        let mut outcome = Outcome::accepted(&trial, totals(1, 1, 1), &[1], &[25]);
         assert_eq!(fault(&trial, &outcome), None);
         for text in ["", "X 1 0\n", "é"] {
             outcome.sheet = Written::text(trial.fill, text);

@@ -1,8 +1,7 @@
 //! The free units' cases by name, their figures written out from the request.
 
-use crate::cases::{case, sent, Cases};
+use crate::cases::{case, sent, totals, Cases};
 use crate::compare::Outcome;
-use crate::paper::Totals;
 use crate::rows::Lent;
 use crate::wire::Command::{self, Count, Shelve};
 use crate::wire::{opening, refused_word as r, Opening, Refusal, Stream, MOST_CAPACITY};
@@ -23,14 +22,14 @@ fn figures(cases: &mut Cases) {
         "a full cartridge is told from a refusal by its answer",
         &sent(opening(60, 1, 6), &full),
         (&[1, 1, r(10), r(8), r(9)], &[0; 5]),
-        (1, 1),
+        totals(1, 1, 1),
     );
     let filled = [Shelve(30), Shelve(30), Shelve(30)];
     cases.answered(
         "a cartridge filled by its second master",
         &sent(OPEN, &filled),
         (&[1, 1, 2], &[30, 0, 30]),
-        (3, 2),
+        totals(3, 2, 10),
     );
 
     let between = [
@@ -55,20 +54,20 @@ fn figures(cases: &mut Cases) {
             &[0, 1, r(9), 1, 1, r(8), r(9), 1, 1, 1, 1, 2, 2],
             &[0, 41, 0, 0, 21, 0, 0, 0, 0, 1, 0, 59, 0],
         ),
-        (5, 2),
+        totals(5, 2, 10),
     );
     cases.answered(
         "the figure is of the cartridge named, not of the last opened",
         &Stream::of_sizes(OPEN, &[19, 35, 18, 26, 7]).bytes(),
         (&[1, 2, 1, 3, 1], &[41, 25, 23, 34, 16]),
-        (5, 3),
+        totals(5, 3, 10),
     );
     for (last, bin, free) in [(38, 4, 0), (37, 4, 1), (39, 5, 21)] {
         cases.answered(
             "the sixth B2 alone in its cartridge, then an A",
             &Stream::of_sizes(OPEN, &[22, 22, 22, 22, 22, 22, last]).bytes(),
             (&[1, 1, 2, 2, 3, 4, bin], &[38, 16, 38, 16, 38, 38, free]),
-            (7, bin.into()),
+            totals(7, bin.into(), 10),
         );
     }
     let beside = [35, 22, 22, 22, 22, 22, 22, 3, 25];
@@ -79,7 +78,7 @@ fn figures(cases: &mut Cases) {
             &[1, 2, 2, 3, 3, 4, 1, 5, 6],
             &[25, 38, 16, 38, 16, 38, 3, 57, 35],
         ),
-        (9, 6),
+        totals(9, 6, 10),
     );
 }
 
@@ -89,13 +88,13 @@ fn widest_figures(cases: &mut Cases) {
         "the widest figures of the largest capacity",
         &Stream::of_sizes(opening(MOST_CAPACITY, 512, 9), &sizes).bytes(),
         (&[1, 2, 1, 3, 4], &[16_777_215, 1, 16_777_214, 0, 8_388_608]),
-        (5, 4),
+        totals(5, 4, 10),
     );
     cases.answered(
         "the only figure of capacity 1",
         &Stream::of_sizes(opening(1, 2, 6), &[1, 1, 1]).bytes(),
         (&[1, 2, r(10)], &[0, 0, 0]),
-        (2, 2),
+        totals(2, 2, 1),
     );
 }
 
@@ -107,10 +106,7 @@ fn row_lengths(cases: &mut Cases, commands: usize) {
     let words: Vec<u16> = [1, 1, r(8)].into_iter().cycle().take(commands).collect();
     let free = (1..).flat_map(|items| [MOST_CAPACITY - items, 0, 0]);
     let free: Vec<u32> = free.take(commands).collect();
-    let totals = Totals {
-        items: commands.div_ceil(3),
-        opened: commands.min(1),
-    };
+    let totals = totals(commands.div_ceil(3), commands.min(1), commands.min(1));
 
     let stream = sent(opening(MOST_CAPACITY, 1, 6), &turns);
     let at = stream.len();

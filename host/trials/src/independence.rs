@@ -95,8 +95,7 @@ pub fn fault(trial: &StreamTrial, outcome: &Outcome) -> Option<&'static str> {
 #[cfg(test)]
 mod tests {
     use super::*;
-    use crate::cases::{case, sent};
-    use crate::paper::Totals;
+    use crate::cases::{case, sent, totals};
     use crate::rows::Lent;
     use crate::wire::Command::{Count, Shelve, Switch, Withdraw};
     use crate::wire::{opening, Opening};
@@ -145,12 +144,9 @@ mod tests {
     #[test]
     fn an_answer_that_goes_by_the_other_production_is_found() {
         let trial = case(sent(OPEN, &COMMANDS), Lent::both(WORDS.len() + 1));
-        let totals = Totals {
-            items: 1,
-            opened: 3,
-        };
         let found = |words: &[u16], free: &[u32]| {
-            compared(&trial, &Outcome::accepted(&trial, totals, words, free))
+            let outcome = Outcome::accepted(&trial, totals(1, 3, 1), words, free);
+            compared(&trial, &outcome)
         };
         // With counts alone the stock lasts, so each is compared at least once.
         assert!(found(&WORDS, &FREE).is_ok_and(|compared| compared >= 9));

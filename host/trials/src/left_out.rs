@@ -61,7 +61,7 @@ pub fn fault(trial: &StreamTrial, outcome: &Outcome) -> Option<&'static str> {
 #[cfg(test)]
 mod tests {
     use super::*;
-    use crate::cases::{case, sent};
+    use crate::cases::{case, sent, totals};
     use crate::paper::Totals;
     use crate::wire::Command::{Count, Shelve, Switch, Withdraw};
     use crate::wire::{opening, refused_word as r};
@@ -82,9 +82,7 @@ mod tests {
     const WORDS: [u16; 10] = [r(17), r(8), 1, r(17), 2, 1, 2, 1, r(17), 1];
     const FREE: [u32; 10] = [0, 0, 25, 0, 40, 60, 0, 0, 0, 0];
 
-    fn totals(items: usize, opened: usize) -> Totals {
-        Totals { items, opened }
-    }
+    const TOTALS: Totals = totals(2, 3, 1);
 
     #[test]
     fn names_follow_the_commands() {
@@ -113,24 +111,33 @@ mod tests {
         let found = |totals: Totals, words: &[u16], free: &[u32]| {
             fault(&trial, &Outcome::accepted(&trial, totals, words, free))
         };
-        assert_eq!(found(totals(2, 3), &WORDS, &FREE), None);
+        assert_eq!(found(TOTALS, &WORDS, &FREE), None);
         let mut words = WORDS;
         words[3] = 1;
         let expected = Some("a refused command is named, and what names it is not refused");
-        assert_eq!(found(totals(2, 3), &words, &FREE), expected);
+        assert_eq!(found(TOTALS, &words, &FREE), expected);
         for place in [2, 4, 5, 6, 7, 9] {
             let mut words = WORDS;
             words[place] += 1;
             let expected = Some("without the refused commands an answer is another");
-            assert_eq!(found(totals(2, 3), &words, &FREE), expected, "{place}");
+            assert_eq!(found(TOTALS, &words, &FREE), expected, "{place}");
             let mut free = FREE;
             free[place] += 1;
             let expected = Some("without the refused commands the free units are others");
-            assert_eq!(found(totals(2, 3), &WORDS, &free), expected, "{place}");
+            assert_eq!(found(TOTALS, &WORDS, &free), expected, "{place}");
         }
         let expected = Some("without the refused commands the totals are others");
-        assert_eq!(found(totals(3, 3), &WORDS, &FREE), expected);
-        let mut outcome = Outcome::accepted(&trial, totals(2, 3), &WORDS, &FREE);
+        for wrong in [
+            Totals { items: 3, ..TOTALS },
+            Totals {
+                opened: 2,
+                ..TOTALS
+            },
+            Totals { looks: 3, ..TOTALS },
+        ] {
+            assert_eq!(found(wrong, &WORDS, &FREE), expected, "{wrong:?}");
+        }
+        let mut outcome = Outcome::accepted(&trial, TOTALS, &WORDS, &FREE);
         outcome.sheet = Written::text(trial.fill, "");
         let expected = Some("without the refused commands the sheet is another");
         assert_eq!(fault(&trial, &outcome), expected);

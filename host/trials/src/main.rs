@@ -19,6 +19,8 @@ mod free_cases;
 mod independence;
 mod left_out;
 mod lists;
+mod looks;
+mod looks_cases;
 mod making;
 mod met;
 mod paper;
@@ -45,9 +47,10 @@ mod written;
 use std::process::ExitCode;
 use std::time::{Instant, SystemTime, UNIX_EPOCH};
 
-use checks::CHECKS;
-use compare::{by_library, by_paper, plan_by_library, Outcome};
+use checks::{fault_of_paper, CHECKS};
+use compare::{by_library, by_paper, by_paper_of, plan_by_library, Outcome};
 use fewest::{first_fit_decreasing, Fewest};
+use looks::Taken;
 use met::Met;
 use paper::Shelved;
 use plans::PlanTrial;
@@ -217,6 +220,8 @@ struct Tally {
     trailers: Trailers,
     /// What the counts found.
     counts: Found,
+    /// The looks that the searches took.
+    looks: Taken,
     /// Prefixes whose fewest bins were found.
     prefixes: u64,
     /// The largest `3 * opened - 5 * k` over these.
@@ -230,6 +235,7 @@ impl std::fmt::Display for Tally {
             accepted,
             trailers,
             counts,
+            looks,
             prefixes,
             worst,
         } = self;
@@ -238,6 +244,7 @@ impl std::fmt::Display for Tally {
             "streams: {streams}, of these {accepted} accepted\n\
              {trailers}\n\
              streams with counts: {counts}\n\
+             streams by their looks: {looks}\n\
              fewest cartridges k at {prefixes} points: 3 * opened - 5 * k is at most {worst}"
         )
     }
@@ -264,8 +271,9 @@ fn try_stream(trial: StreamTrial, tally: &mut Tally) -> Result<(), String> {
     tally.streams += 1;
     let kind = trial.kind;
     let outcome = by_library(&trial);
+    let shelved = paper::shelve(&trial.stream);
     let differs = |trial: &StreamTrial| by_paper(trial) != by_library(trial);
-    if by_paper(&trial) != outcome {
+    if by_paper_of(&trial, &shelved) != outcome {
         return Err(format!("{kind}\n{}", show_stream(trial, differs)));
     }
     tally.accepted += u64::from(outcome.totals().is_some());
@@ -276,10 +284,10 @@ fn try_stream(trial: StreamTrial, tally: &mut Tally) -> Result<(), String> {
             return Err(format!("{kind}: {fault}\n{}", show_stream(trial, faulty)));
         }
     }
-    if let Ok(shelved) = paper::shelve(&trial.stream) {
-        if let Some(fault) = walk::fault(&shelved) {
+    if let Ok(shelved) = shelved {
+        if let Some(fault) = fault_of_paper(&shelved) {
             let faulty = |trial: &StreamTrial| {
-                paper::shelve(&trial.stream).is_ok_and(|shelved| walk::fault(&shelved).is_some())
+                paper::shelve(&trial.stream).is_ok_and(|shelved| fault_of_paper(&shelved).is_some())
             };
             return Err(format!("{kind}: {fault}\n{}", show_stream(trial, faulty)));
         }
@@ -287,6 +295,7 @@ fn try_stream(trial: StreamTrial, tally: &mut Tally) -> Result<(), String> {
         let counts = productions.flat_map(|production| &production.counts);
         let figures = counts.map(|(walk, _)| walk.figure);
         tally.counts.add(shelved.packing.opening.stock, figures);
+        tally.looks.add(&shelved.packing);
     }
     match worst_excess(&trial, &outcome, tally) {
         Some(worst) if worst > FIGURE => {
@@ -378,7 +387,7 @@ fn try_plan(trial: PlanTrial) -> Result<bool, String> {
 #[cfg(test)]
 mod tests {
     use super::*;
-    use crate::cases::{case, sent};
+    use crate::cases::{case, sent, totals};
     use crate::rows::Lent;
     use crate::wire::opening;
     use crate::wire::Command::{Shelve, Switch, Withdraw};
@@ -420,11 +429,7 @@ mod tests {
         let opening = opening(60, 512, 6).with_trailer(29);
         let trial = case(sent(opening, &[Shelve(1); 12]), Lent::both(12));
         let words: Vec<u16> = (1..=12).collect();
-        let totals = paper::Totals {
-            items: 12,
-            opened: 12,
-        };
-        let outcome = Outcome::accepted(&trial, totals, &words, &[0; 12]);
+        let outcome = Outcome::accepted(&trial, totals(12, 12, 1), &words, &[0; 12]);
         let worst = worst_excess(&trial, &outcome, &mut Tally::default());
         assert_eq!(worst, Some(3 * 12 - 5 * 6));
         // A list that is not short is held against first-fit decreasing.
@@ -441,13 +446,9 @@ mod tests {
             let mut commands = vec![Shelve(1); 12];
             commands[withdrawn] = Withdraw(1);
             let trial = case(sent(opening(60, 512, 6), &commands), Lent::both(12));
-            let totals = paper::Totals {
-                items: 10,
-                opened: 11,
-            };
             let mut words: Vec<u16> = (1..=12).collect();
             words[withdrawn] = 1;
-            let outcome = Outcome::accepted(&trial, totals, &words, &[0; 12]);
+            let outcome = Outcome::accepted(&trial, totals(10, 11, 1), &words, &[0; 12]);
             worst_excess(&trial, &outcome, &mut Tally::default())
         };
         assert_eq!(worst(11), Some(3 * 11 - 5));

@@ -1,6 +1,7 @@
 //! The specification in plain Rust, written from the paper alone and sharing
-//! nothing with the library or its wrapper: bins are lists of items, a search
-//! is a scan, a load is a sum. [`wire`](crate::wire) is its reader.
+//! nothing with the library or its wrapper: bins are lists of items, a bin is
+//! found by a scan, a load is a sum. Beside the scan stands the search that the
+//! paper tells of, for its looks. [`wire`](crate::wire) is its reader.
 
 use crate::wire::{refuse, refused_word, Command, Opening, Refusal, Stream};
 use crate::wire::{MOST_CAPACITY, PRODUCTIONS};
@@ -13,6 +14,7 @@ pub const MOST_ENTRIES: usize = 4096;
 pub struct Totals {
     pub items: usize,
     pub opened: usize,
+    pub looks: usize,
 }
 
 #[derive(Debug, Clone, Copy, PartialEq, Eq)]
@@ -62,6 +64,58 @@ pub struct Walk {
     pub places: usize,
 }
 
+/// What a search hands up.
+#[derive(Debug, Clone, Copy, PartialEq, Eq)]
+pub struct Search {
+    /// The place that is left, if any has space.
+    pub place: Option<usize>,
+    /// The nodes whose largest free space it read.
+    pub looks: usize,
+}
+
+impl Search {
+    /// Searches a tree over a stock, of which the first places have this free
+    /// space and the others none. The places number the least power of two that
+    /// is not below the stock. A look is at the largest free space of some: first
+    /// of all, and while the item fits, of the left half of those that are left.
+    fn over(stock: u16, free: &[u64], size: u64) -> Self {
+        let mut places = 1;
+        while places < stock.into() {
+            places *= 2;
+        }
+        let mut looks = 0;
+        let mut fits = |places: &[u64]| {
+            looks += 1;
+            places.iter().max().is_some_and(|&largest| largest >= size)
+        };
+        let mut place = None;
+        if fits(free) {
+            // The first of the places left, and their free space as far as any has.
+            let (mut first, mut left) = (0, free);
+            while places > 1 {
+                places /= 2;
+                let (half, other) = left.split_at(places.min(left.len()));
+                left = half;
+                if !fits(half) {
+                    first += places;
+                    left = other;
+                }
+            }
+            place = Some(first);
+        }
+        Self { place, looks }
+    }
+}
+
+/// The search of a command.
+pub struct Searched {
+    /// The command's number.
+    pub number: usize,
+    pub search: Search,
+    /// The place that the scan found.
+    pub scanned: Option<usize>,
+}
+
 /// What a production has for itself.
 #[derive(Default)]
 pub struct Production {
@@ -100,6 +154,8 @@ impl Production {
 pub struct Packing {
     pub opening: Opening,
     pub productions: [Production; PRODUCTIONS],
+    /// The searches of both, in the order of their commands.
+    pub searches: Vec<Searched>,
     /// The production that commands belong to.
     current: usize,
 }
@@ -109,6 +165,7 @@ impl Packing {
         Self {
             opening,
             productions: Default::default(),
+            searches: Vec::new(),
             current: 0,
         }
     }
@@ -162,9 +219,21 @@ impl Packing {
                 let mut items = bin.items.iter();
                 items.any(|item| size_class(item.size, capacity) == SizeClass::A)
             };
-            bin.class == class && bin.load() + size <= capacity && (!beside_an_a || holds_an_a())
+            bin.class == class && (!beside_an_a || holds_an_a())
         };
-        let place = match own.bins.iter().position(permitted) {
+        // One that is not permitted has no free space, and no item is of size 0.
+        let free = own.bins.iter().map(|bin| match permitted(bin) {
+            true => capacity - bin.load(),
+            false => 0,
+        });
+        let free: Vec<u64> = free.collect();
+        let scanned = free.iter().position(|&free| free >= size);
+        self.searches.push(Searched {
+            number,
+            search: Search::over(self.opening.stock, &free, size),
+            scanned,
+        });
+        let place = match scanned {
             Some(place) => place,
             None if is_spent => return Err(10),
             None => {
@@ -192,6 +261,12 @@ impl Packing {
             }
         }
         Err(17)
+    }
+
+    /// The most looks of a search; 0, where none was made.
+    fn looks(&self) -> usize {
+        let looks = self.searches.iter().map(|searched| searched.search.looks);
+        looks.max().unwrap_or(0)
     }
 
     /// The units that are left free on a bin.
@@ -225,11 +300,12 @@ impl Packing {
     }
 }
 
-/// What is made of a stream without a fault: each command's word in each row,
-/// the packing that it leaves, and each production's walk over that after the
-/// last command.
+/// What is made of a stream without a fault: its commands, each one's word in
+/// each row, the packing that they leave, and each production's walk over that
+/// after the last command.
 pub struct Shelved {
-    answers: Vec<(u16, u32)>,
+    pub commands: Vec<Command>,
+    pub answers: Vec<(u16, u32)>,
     pub packing: Packing,
     pub walks: [Walk; PRODUCTIONS],
 }
@@ -238,10 +314,11 @@ pub struct Shelved {
 pub fn shelve(stream: &[u8]) -> Result<Shelved, Refusal> {
     let Stream { opening, commands } = Stream::read(stream)?;
     let mut packing = Packing::new(opening);
-    let numbered = (1..).zip(commands);
-    let answers = numbered.map(|(number, command)| packing.answer(number, command));
+    let numbered = (1..).zip(&commands);
+    let answers = numbered.map(|(number, &command)| packing.answer(number, command));
     Ok(Shelved {
         answers: answers.collect(),
+        commands,
         walks: packing
             .productions
             .each_ref()
@@ -271,6 +348,7 @@ pub fn answer(
     Ok(Totals {
         items: packing.bins().map(|bin| bin.items.len()).sum(),
         opened: packing.bins().count(),
+        looks: packing.looks(),
     })
 }
 

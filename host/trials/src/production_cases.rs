@@ -1,10 +1,9 @@
 //! The cases of two productions by name, their words and sheets written out from
 //! the request. Most tell a wrong reading of it from the right one.
 
-use crate::cases::{case, sent, BinLine, Case, Cases, OPENINGS};
+use crate::cases::{all_placed, case, sent, totals, BinLine, Case, Cases, OPENINGS};
 use crate::compare::by_paper;
 use crate::families;
-use crate::paper::Totals;
 use crate::rows::Lent;
 use crate::sheet_cases::sheets;
 use crate::wire::Command::{self, Count, Shelve, Switch, Withdraw};
@@ -29,6 +28,7 @@ const CASES: [(Case, &[BinLine]); 14] = [
                 (Switch(1), 1, 0),
             ],
             items: 1,
+            looks: 1,
             bins: &[(1, 35, 1)],
         },
         &[],
@@ -44,6 +44,7 @@ const CASES: [(Case, &[BinLine]); 14] = [
                 (Withdraw(1), 1, 60),
             ],
             items: 0,
+            looks: 1,
             bins: &[(1, 0, 0)],
         },
         &[],
@@ -71,6 +72,7 @@ const CASES: [(Case, &[BinLine]); 14] = [
                 (Count, 3, 0),
             ],
             items: 8,
+            looks: 10,
             bins: &[(1, 35, 1), (2, 60, 2), (4, 20, 1)],
         },
         &[(2, 30, 1), (4, 40, 2), (1, 35, 1)],
@@ -89,6 +91,7 @@ const CASES: [(Case, &[BinLine]); 14] = [
                 (Withdraw(2), 1, 38),
             ],
             items: 1,
+            looks: 10,
             bins: &[],
         },
         &[(3, 22, 1)],
@@ -119,6 +122,7 @@ const CASES: [(Case, &[BinLine]); 14] = [
                 (Shelve(38), 4, 0),
             ],
             items: 14,
+            looks: 10,
             bins: &[(3, 44, 2), (3, 44, 2), (3, 22, 1), (1, 60, 2)],
         },
         &[(3, 44, 2), (3, 44, 2), (3, 22, 1), (1, 60, 2)],
@@ -141,6 +145,7 @@ const CASES: [(Case, &[BinLine]); 14] = [
                 (Shelve(38), 2, 22),
             ],
             items: 8,
+            looks: 10,
             bins: &[(1, 35, 1), (1, 38, 1)],
         },
         &[(3, 44, 2), (3, 44, 2), (3, 22, 1), (1, 22, 1)],
@@ -169,6 +174,7 @@ const CASES: [(Case, &[BinLine]); 14] = [
                 (Shelve(20), r(10), 0),
             ],
             items: 6,
+            looks: 3,
             bins: &[(1, 35, 1), (2, 60, 2)],
         },
         &[(4, 60, 3)],
@@ -188,6 +194,7 @@ const CASES: [(Case, &[BinLine]); 14] = [
                 (Count, 0, 0),
             ],
             items: 2,
+            looks: 1,
             bins: &[],
         },
         &[(1, 35, 1), (1, 35, 1)],
@@ -209,6 +216,7 @@ const CASES: [(Case, &[BinLine]); 14] = [
                 (Shelve(40), 1, 20),
             ],
             items: 1,
+            looks: 2,
             bins: &[(1, 40, 1), (2, 0, 0)],
         },
         &[],
@@ -237,6 +245,7 @@ const CASES: [(Case, &[BinLine]); 14] = [
                 (Count, 3, 0),
             ],
             items: 7,
+            looks: 4,
             bins: &[(3, 44, 2), (3, 44, 2), (3, 22, 1)],
         },
         &[(1, 35, 1), (1, 35, 1)],
@@ -264,6 +273,7 @@ const CASES: [(Case, &[BinLine]); 14] = [
                 (Count, 1, 0),
             ],
             items: 0,
+            looks: 1,
             bins: &[(1, 0, 0)],
         },
         &[(1, 0, 0)],
@@ -284,6 +294,7 @@ const CASES: [(Case, &[BinLine]); 14] = [
                 (Withdraw(2), r(17), 0),
             ],
             items: 1,
+            looks: 1,
             bins: &[],
         },
         &[(1, 35, 1)],
@@ -308,6 +319,7 @@ const CASES: [(Case, &[BinLine]); 14] = [
                 (Withdraw(2), r(17), 0),
             ],
             items: 2,
+            looks: 10,
             bins: &[(4, 20, 1)],
         },
         &[(4, 20, 1)],
@@ -329,6 +341,7 @@ const CASES: [(Case, &[BinLine]); 14] = [
                 (Withdraw(3), r(17), 0),
             ],
             items: 2,
+            looks: 1,
             bins: &[(1, 35, 1)],
         },
         &[(1, 0, 0), (1, 60, 1)],
@@ -469,7 +482,8 @@ fn longest_streams(cases: &mut Cases) {
     let words = [1, 0].repeat(MOST_COMMANDS / 2);
     let name = "4,096 switches";
     let stream = sent(OPEN, &turns);
-    cases.answered(name, &stream, (&words, &[0; MOST_COMMANDS]), (0, 0));
+    let free = [0; MOST_COMMANDS];
+    cases.answered(name, &stream, (&words, &free), totals(0, 0, 0));
     cases.sheet(name, stream, "");
 
     // Production 0 opens the odd ones of the stock, production 1 the even ones.
@@ -485,7 +499,7 @@ fn longest_streams(cases: &mut Cases) {
     words.extend([r(10), 256, 1, r(10), 256]);
     free.extend([0; 5]);
     let stream = sent(OPEN, &commands);
-    cases.answered(name, &stream, (&words, &free), (512, 512));
+    cases.answered(name, &stream, (&words, &free), totals(512, 512, 1));
     cases.sheet(name, stream, &sheets(60, [&[(1, 60, 1); 256]; 2]));
 }
 
@@ -504,10 +518,7 @@ fn worst_in_both(cases: &mut Cases, k: u32) {
     let stream = Stream { opening, commands };
     let trial = case(stream.bytes(), Lent::both(stream.commands.len()));
     let paper = by_paper(&trial);
-    let totals = Totals {
-        items: 2 * family.sizes.len(),
-        opened: 2 * opened,
-    };
+    let totals = all_placed(2 * family.sizes.len(), 2 * opened);
     cases.check(&name, paper.totals() == Some(totals), || {
         format!("paper: {paper}")
     });

@@ -1,10 +1,9 @@
 //! Which items are still shelved, by the answers alone and without the method;
-//! and what has to go by them: the totals, the counts, the vault sheet and each
-//! production's own plan.
+//! and what has to go by them: two of the totals, the counts, the vault sheet and
+//! each production's own plan.
 
 use crate::compare::{plan_by_library, Outcome};
 use crate::figures::{on_sheet, Figures};
-use crate::paper::Totals;
 use crate::plans::PlanTrial;
 use crate::streams::StreamTrial;
 use crate::wire::{answer, entry_size, Command, Opening, Stream, PRODUCTIONS};
@@ -143,11 +142,9 @@ pub fn fault(trial: &StreamTrial, outcome: &Outcome) -> Option<&'static str> {
             return Some(fault);
         }
     }
-    let still_shelved = Totals {
-        items: told.items.iter().flatten().count(),
-        opened: told.opened.iter().sum::<u16>().into(),
-    };
-    if totals != still_shelved {
+    let items = told.items.iter().flatten().count();
+    let opened = usize::from(told.opened.iter().sum::<u16>());
+    if (totals.items, totals.opened) != (items, opened) {
         return Some("the totals are not of what is still shelved and was opened");
     }
     let productions = (0..PRODUCTIONS).map(|production| told.loads_and_held(production));
@@ -168,7 +165,8 @@ pub fn fault(trial: &StreamTrial, outcome: &Outcome) -> Option<&'static str> {
 #[cfg(test)]
 mod tests {
     use super::*;
-    use crate::cases::{case, sent};
+    use crate::cases::{case, sent, totals};
+    use crate::paper::Totals;
     use crate::rows::Lent;
     use crate::wire::Command::{Count, Shelve, Switch, Withdraw};
     use crate::wire::{opening, refused_word as r};
@@ -189,10 +187,7 @@ mod tests {
     const OPEN: Opening = opening(60, 4, 6);
     const WORDS: [u16; 8] = [1, 1, 2, 1, r(17), 2, r(9), r(17)];
     const FREE: [u32; 8] = [38, 16, 25, 38, 0, 0, 0, 0];
-    const TOTALS: Totals = Totals {
-        items: 2,
-        opened: 2,
-    };
+    const TOTALS: Totals = totals(2, 2, 3);
 
     fn trial(commands: &[Command]) -> StreamTrial {
         case(sent(OPEN, commands), Lent::both(COMMANDS.len()))
@@ -264,12 +259,9 @@ mod tests {
             let mut words = [1, 1, 1, r(17), 1, 0, 2, r(17)];
             words[place] = word;
             let trial = case(stream(stock), Lent::both(words.len()));
-            let totals = Totals {
-                items: 3,
-                opened: 3,
-            };
             let free = [25, 0, 20, 0, 0, 0, 30, 0];
-            fault(&trial, &Outcome::accepted(&trial, totals, &words, &free))
+            let outcome = Outcome::accepted(&trial, totals(3, 3, 1), &words, &free);
+            fault(&trial, &outcome)
         };
         assert_eq!(found(3, 0, 1), None);
         for (stock, place, word, expected) in [
@@ -305,7 +297,7 @@ mod tests {
     fn wrong_totals_are_found() {
         let expected = Some("the totals are not of what is still shelved and was opened");
         for (items, opened) in [(3, 2), (1, 2), (2, 1), (2, 3)] {
-            let totals = Totals { items, opened };
+            let totals = totals(items, opened, 3);
             assert_eq!(found(&WORDS, totals), expected, "{totals:?}");
         }
     }

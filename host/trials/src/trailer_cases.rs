@@ -1,7 +1,7 @@
 //! The trailer's cases by name, their words and sheets written out from the
 //! request. Most tell a wrong reading of it from the right one.
 
-use crate::cases::{sent, Case, Cases};
+use crate::cases::{sent, totals, Case, Cases};
 use crate::lists::most_trailer;
 use crate::sheet_cases::sheet;
 use crate::wire::Command::{self, Count, Shelve, Switch, Withdraw};
@@ -26,6 +26,7 @@ pub const CASES: [Case; 9] = [
             (Shelve(1), 1, 18),
         ],
         items: 9,
+        looks: 10,
         bins: &[(4, 42, 3), (3, 45, 2), (2, 55, 2), (1, 31, 1), (1, 60, 1)],
     },
     Case {
@@ -42,6 +43,7 @@ pub const CASES: [Case; 9] = [
             (Count, 4, 0),
         ],
         items: 7,
+        looks: 10,
         bins: &[(2, 60, 2), (2, 30, 1), (4, 50, 3), (4, 11, 1)],
     },
     Case {
@@ -56,6 +58,7 @@ pub const CASES: [Case; 9] = [
             (Withdraw(3), 1, 60),
         ],
         items: 0,
+        looks: 1,
         bins: &[(4, 0, 0)],
     },
     Case {
@@ -71,6 +74,7 @@ pub const CASES: [Case; 9] = [
             (Shelve(54), 2, 1),
         ],
         items: 2,
+        looks: 1,
         bins: &[(1, 60, 1), (1, 59, 1)],
     },
     Case {
@@ -88,6 +92,7 @@ pub const CASES: [Case; 9] = [
             (Count, 1, 0),
         ],
         items: 1,
+        looks: 1,
         bins: &[(1, 35, 1)],
     },
     Case {
@@ -105,6 +110,7 @@ pub const CASES: [Case; 9] = [
             (Shelve(15), 1, 40),
         ],
         items: 1,
+        looks: 10,
         bins: &[(4, 20, 1)],
     },
     Case {
@@ -123,6 +129,7 @@ pub const CASES: [Case; 9] = [
             (Shelve(20), 4, 18),
         ],
         items: 9,
+        looks: 10,
         bins: &[(3, 42, 2), (2, 25, 1), (3, 42, 2), (3, 42, 2), (1, 60, 2)],
     },
     Case {
@@ -146,6 +153,7 @@ pub const CASES: [Case; 9] = [
             (Shelve(38), 1, 0),
         ],
         items: 13,
+        looks: 10,
         bins: &[
             (1, 60, 2),
             (3, 42, 2),
@@ -169,6 +177,7 @@ pub const CASES: [Case; 9] = [
             (Count, 3, 0),
         ],
         items: 2,
+        looks: 1,
         bins: &[(4, 0, 0), (3, 21, 1), (1, 60, 1)],
     },
 ];
@@ -220,7 +229,7 @@ fn trailers_of_two_bytes(cases: &mut Cases) {
             &format!("a trailer of {trailer:04X} hex"),
             &sent(opening(100_000, 4, 6).with_trailer(trailer), &commands),
             (&[1, r(9), 1, 2], &[0, 0, 0, 1]),
-            (2, 2),
+            totals(2, 2, 1),
         );
     }
 }
@@ -246,7 +255,7 @@ fn sums_past_32_bits(cases: &mut Cases) {
             &format!("sums past 32 bits, capacity {capacity}, trailer {trailer}"),
             &sent(opening(capacity, 2, 6).with_trailer(trailer), &commands),
             (&[r(9); 7], &[0; 7]),
-            (0, 0),
+            totals(0, 0, 0),
         );
     }
 }
@@ -272,7 +281,7 @@ fn beside_the_capacity(cases: &mut Cases) {
     ] {
         let name = format!("capacity {capacity}, trailer {trailer}: not a size fits");
         let stream = sent(opening(capacity, 1, 6).with_trailer(trailer), &commands);
-        cases.answered(&name, &stream, (&words, &[0; 10]), (0, 0));
+        cases.answered(&name, &stream, (&words, &[0; 10]), totals(0, 0, 0));
         cases.sheet(&name, stream, "");
     }
     words[1] = 1;
@@ -285,7 +294,7 @@ fn beside_the_capacity(cases: &mut Cases) {
     ] {
         let name = format!("capacity {capacity}, trailer {trailer}: size 1 fits alone");
         let stream = sent(opening(capacity, 1, 6).with_trailer(trailer), &commands);
-        cases.answered(&name, &stream, (&words, &[0; 10]), (1, 1));
+        cases.answered(&name, &stream, (&words, &[0; 10]), totals(1, 1, 1));
         cases.sheet(&name, stream, &sheet(capacity, &[(1, capacity, 1)]));
     }
 }
@@ -302,7 +311,7 @@ fn widest_trailer(cases: &mut Cases) {
         .collect();
     free.extend([16_711_680, 0, 0, 0]);
     let stream = sent(open, &commands);
-    cases.answered(name, &stream, (&words, &free), (258, 3));
+    cases.answered(name, &stream, (&words, &free), totals(258, 3, 10));
     let lines = [
         "PAGE   1                                \n",
         "   1 4 16777216        0  256           \n",
@@ -318,7 +327,7 @@ fn widest_trailer(cases: &mut Cases) {
     let free: Vec<u32> = (1..=4096)
         .map(|items| MOST_CAPACITY - 4096 * items)
         .collect();
-    cases.answered(name, &stream, (&words, &free), (4096, 1));
+    cases.answered(name, &stream, (&words, &free), totals(4096, 1, 1));
     cases.sheet(
         name,
         stream,

@@ -1,7 +1,7 @@
 //! The withdrawals' cases by name, their words and sheets written out from the
 //! request.
 
-use crate::cases::{sent, Case, Cases};
+use crate::cases::{sent, totals, Case, Cases};
 use crate::sheet_cases::sheet;
 use crate::wire::Command::{self, Count, Shelve, Withdraw};
 use crate::wire::{opening, refused_word as r, MOST_CAPACITY, MOST_COMMANDS, MOST_STOCK};
@@ -20,6 +20,7 @@ pub const CASES: [Case; 15] = [
             (Shelve(20), 2, 20),
         ],
         items: 5,
+        looks: 10,
         bins: &[(4, 60, 3), (4, 40, 2)],
     },
     Case {
@@ -37,6 +38,7 @@ pub const CASES: [Case; 15] = [
             (Shelve(60), 4, 0),
         ],
         items: 4,
+        looks: 10,
         bins: &[(1, 60, 1), (1, 60, 1), (1, 60, 1), (1, 60, 1)],
     },
     Case {
@@ -56,6 +58,7 @@ pub const CASES: [Case; 15] = [
             (Count, 3, 0),
         ],
         items: 1,
+        looks: 3,
         bins: &[(1, 0, 0), (2, 0, 0), (3, 21, 1)],
     },
     Case {
@@ -76,6 +79,7 @@ pub const CASES: [Case; 15] = [
             (Shelve(38), 5, 0),
         ],
         items: 8,
+        looks: 10,
         bins: &[(1, 38, 1), (3, 44, 2), (3, 44, 2), (3, 22, 1), (1, 60, 2)],
     },
     Case {
@@ -96,6 +100,7 @@ pub const CASES: [Case; 15] = [
             (Shelve(22), 4, 16),
         ],
         items: 8,
+        looks: 3,
         bins: &[(1, 57, 2), (3, 44, 2), (3, 44, 2), (3, 44, 2)],
     },
     Case {
@@ -120,6 +125,7 @@ pub const CASES: [Case; 15] = [
             (Shelve(38), 1, 0),
         ],
         items: 13,
+        looks: 10,
         bins: &[
             (1, 60, 2),
             (3, 44, 2),
@@ -150,6 +156,7 @@ pub const CASES: [Case; 15] = [
             (Shelve(22), 4, 0),
         ],
         items: 12,
+        looks: 10,
         bins: &[
             (3, 44, 2),
             (3, 44, 2),
@@ -179,6 +186,7 @@ pub const CASES: [Case; 15] = [
             (Shelve(22), 1, 38),
         ],
         items: 1,
+        looks: 10,
         bins: &[(3, 22, 1), (1, 0, 0)],
     },
     Case {
@@ -195,6 +203,7 @@ pub const CASES: [Case; 15] = [
             (Count, 0, 0),
         ],
         items: 0,
+        looks: 0,
         bins: &[],
     },
     Case {
@@ -223,6 +232,7 @@ pub const CASES: [Case; 15] = [
             (Count, 1, 0),
         ],
         items: 0,
+        looks: 10,
         bins: &[(1, 0, 0)],
     },
     Case {
@@ -235,6 +245,7 @@ pub const CASES: [Case; 15] = [
             (Withdraw(2), r(17), 0),
         ],
         items: 0,
+        looks: 1,
         bins: &[(1, 0, 0)],
     },
     Case {
@@ -254,6 +265,7 @@ pub const CASES: [Case; 15] = [
             (Shelve(31), 1, 29),
         ],
         items: 1,
+        looks: 1,
         bins: &[(1, 31, 1)],
     },
     Case {
@@ -279,6 +291,7 @@ pub const CASES: [Case; 15] = [
             (Shelve(22), r(10), 0),
         ],
         items: 3,
+        looks: 2,
         bins: &[(3, 44, 2), (3, 22, 1)],
     },
     Case {
@@ -294,6 +307,7 @@ pub const CASES: [Case; 15] = [
             (Withdraw(1), 1, 60),
         ],
         items: 0,
+        looks: 10,
         bins: &[(2, 0, 0), (2, 0, 0)],
     },
     Case {
@@ -309,6 +323,7 @@ pub const CASES: [Case; 15] = [
             (Shelve(20), 1, 40),
         ],
         items: 1,
+        looks: 10,
         bins: &[(4, 20, 1)],
     },
 ];
@@ -337,12 +352,14 @@ fn emptied_of_each_class(cases: &mut Cases) {
                 };
                 let opened = bins.len();
                 let items = usize::from(last != r(10));
+                let looks = if other == class && stock == 2 { 2 } else { 1 };
                 let name = format!("class {class} emptied, class {other} next, stock {stock}");
                 let commands = [Shelve(size), Withdraw(1), Count, Shelve(next), Count];
                 let stream = sent(opening(60, stock, 6), &commands);
                 let words = [1, 1, 1, last, opened as u16];
                 let free = [60 - size, 60, 0, left, 0];
-                cases.answered(&name, &stream, (&words, &free), (items, opened));
+                let totals = totals(items, opened, looks);
+                cases.answered(&name, &stream, (&words, &free), totals);
                 cases.sheet(&name, stream, &sheet(60, &bins));
             }
         }
@@ -369,7 +386,7 @@ fn numbers_of_two_bytes(cases: &mut Cases) {
         "a number of two bytes",
         &sent(opening(1000, 1, 9), &commands),
         (&words, &free),
-        (297, 1),
+        totals(297, 1, 1),
     );
 }
 
@@ -384,7 +401,7 @@ fn longest_streams(cases: &mut Cases) {
         "2,048 masters, each taken out before the next",
         &sent(opening(60, 512, 6), &pairs.flatten().collect::<Vec<_>>()),
         (&words, &free),
-        (0, 1),
+        totals(0, 1, 10),
     );
 
     let mut commands = vec![Shelve(1); MOST_COMMANDS - 2];
@@ -399,7 +416,7 @@ fn longest_streams(cases: &mut Cases) {
         "the last masters of 4,096 commands are named, and a name of itself",
         &sent(opening(MOST_CAPACITY, 1, 6), &commands),
         (&words, &free),
-        (4093, 1),
+        totals(4093, 1, 1),
     );
 
     let name = "a whole stock emptied";
@@ -416,7 +433,7 @@ fn longest_streams(cases: &mut Cases) {
     free.extend([60; 512]);
     free.extend([0, 0, 0]);
     let stream = sent(opening(60, MOST_STOCK, 6), &commands);
-    cases.answered(name, &stream, (&words, &free), (1, 512));
+    cases.answered(name, &stream, (&words, &free), totals(1, 512, 10));
     let mut bins = vec![(1, 0, 0); 512];
     bins[0] = (1, 60, 1);
     cases.sheet(name, stream, &sheet(60, &bins));
@@ -428,7 +445,8 @@ fn widest_figure(cases: &mut Cases) {
         opening(MOST_CAPACITY, 512, 9),
         &[Shelve(MOST_CAPACITY), Withdraw(1)],
     );
-    cases.answered(name, &stream, (&[1, 1], &[0, 16_777_216]), (0, 1));
+    let words = (&[1, 1][..], &[0, 16_777_216][..]);
+    cases.answered(name, &stream, words, totals(0, 1, 1));
     let lines = [
         "PAGE   1                                \n",
         "   1 1        0 16777216    0           \n",
@@ -436,5 +454,6 @@ fn widest_figure(cases: &mut Cases) {
     cases.sheet(name, stream, &lines.concat());
     let name = "an emptied cartridge of capacity 1";
     let stream = sent(opening(1, 1, 6), &[Shelve(1), Withdraw(1), Shelve(1)]);
-    cases.answered(name, &stream, (&[1, 1, 1], &[0, 1, 0]), (1, 1));
+    let words = (&[1, 1, 1][..], &[0, 1, 0][..]);
+    cases.answered(name, &stream, words, totals(1, 1, 1));
 }
