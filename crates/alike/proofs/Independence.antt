@@ -4,21 +4,23 @@ use Prim.Native.Nat.{ℕ, zero, suc, _<_}
 use mathlib.Core.Path.{_≡_, refl, sym, ap, subst, _∙_}
 use mathlib.Core.Bool.{Bool, true, false, _||_, true≢false}
 use mathlib.Core.List.{List, [], _∷_, _++_, map}
+use mathlib.Core.Option.{Option}
 use native.Mathlib.Omega.{arith}
 use borrow.Author.Tests.{not-true}
-use lib.Dec.{eqb, ltb}
+use lib.Dec.{ltb}
 use lib.ListN.{length, take, drop, getD, length-map}
-use Rattle.packing.specs.declared.{Opening.Opening, Production.Production, Command.Command, Outcome.Outcome, Answer.Answer}
+use Rattle.packing.specs.declared.{Opening.Opening, Production.Production, Command.Command, Outcome.Outcome, Answer.Answer, ItemReason.ItemReason}
 use Rattle.packing.specs.declared.Production.the-variants.{First}
-use Rattle.packing.specs.declared.Command.the-variants.{Shelve, Count, Withdraw, Switch}
-use Rattle.packing.specs.declared.ItemReason.the-variants.{SizeZero, AboveCapacity, StockSpent}
+use Rattle.packing.specs.declared.Command.the-variants.{Shelve, Count, Withdraw, Switch, Reserve, Settle}
+use Rattle.packing.specs.declared.ItemReason.the-variants.{AboveCapacity, StockSpent}
 use Rattle.packing.specs.Prelude.{if_then_else_, any}
 use Rattle.packing.specs.Productions.{other}
 use Rattle.packing.specs.Refusals.{isRefused}
-use Rattle.packing.specs.Bins.{Item, Packing, stored}
+use Rattle.packing.specs.Bins.{Item, Packing}
 use Rattle.packing.specs.Placing.{Decision, into, refusing, binFor, spent, decision, placed}
 use Rattle.packing.specs.Shelves.{Shelf, emptyShelf, of, own, stockLeft, belonging}
-use Rattle.packing.specs.Run.{item, told, Step, answerOf, answerTo, next, done, answerOn, nextShelf, stepsOf, runFrom, shelfFrom, run, outcomes, current}
+use Rattle.packing.specs.Sending.{fault, itemOf}
+use Rattle.packing.specs.Run.{told, Step, answerOf, shelvedAs, answerTo, next, done, answerOn, nextShelf, stepsOf, runFrom, shelfFrom, run, outcomes}
 use Rattle.alike.specs.Independent.{Replaced, none, same, replaced, isSpent, Differing, Independence, IndependentStreams}
 use Rattle.packing.proofs.Productions.{Whose, its-own, the-others, whose, other-apart, steps-own, steps-other, answer-of, own-of, other-of, current-of, stays-current}
 use Rattle.packing.proofs.Running.{run-length}
@@ -29,26 +31,31 @@ either-false false y e = (refl, e)
 
 -- Not refused with 10, whatever is left of the stock: then it is decided alike.
 module _ (o : Opening) (p : Packing) (left left′ n : ℕ) where
-  same-decision : (i : Item) (bare : ℕ) → isSpent (told o (placed o p i) (decision o p i left bare)) ≡ false
-      → isSpent (told o (placed o p i) (decision o p i left′ bare)) ≡ false → decision o p i left bare ≡ decision o p i left′ bare
+  same-decision : (i : Item) (reason : Option ItemReason) → isSpent (told o (placed o p i) (decision o p i left reason)) ≡ false
+      → isSpent (told o (placed o p i) (decision o p i left′ reason)) ≡ false → decision o p i left reason ≡ decision o p i left′ reason
   unfolding decision
-  same-decision i bare x y = go (eqb bare 0) (ltb (o .capacity) (i .size)) (spent o p i left) (spent o p i left′) x y
+  same-decision i (Option.some reason) x y = refl
+  same-decision i Option.none x y = go (ltb (o .capacity) (i .size)) (spent o p i left) (spent o p i left′) x y
     where
-      by : (a b d : Bool) → Decision
-      by a b d = if a then refusing SizeZero else if b then refusing AboveCapacity else if d then refusing StockSpent else into (binFor o p i)
+      by : (b d : Bool) → Decision
+      by b d = if b then refusing AboveCapacity else if d then refusing StockSpent else into (binFor o p i)
 
-      go : (a b d d′ : Bool) → isSpent (told o (placed o p i) (by a b d)) ≡ false → isSpent (told o (placed o p i) (by a b d′)) ≡ false → by a b d ≡ by a b d′
-      go true b d d′ x y = refl
-      go false true d d′ x y = refl
-      go false false true d′ x y = absurd (true≢false x)
-      go false false false true x y = absurd (true≢false y)
-      go false false false false x y = refl
+      go : (b d d′ : Bool) → isSpent (told o (placed o p i) (by b d)) ≡ false → isSpent (told o (placed o p i) (by b d′)) ≡ false → by b d ≡ by b d′
+      go true d d′ x y = refl
+      go false true d′ x y = absurd (true≢false x)
+      go false false true x y = absurd (true≢false y)
+      go false false false x y = refl
+
+  same-item : (c : Command) → isSpent (shelvedAs o left p n c) ≡ false → isSpent (shelvedAs o left′ p n c) ≡ false → shelvedAs o left p n c ≡ shelvedAs o left′ p n c
+  same-item c x y = ap (told o (placed o p (itemOf o n c))) (same-decision (itemOf o n c) (fault c) x y)
 
   same-answer : (c : Command) → isSpent (answerTo o left p n c) ≡ false → isSpent (answerTo o left′ p n c) ≡ false → answerTo o left p n c ≡ answerTo o left′ p n c
-  same-answer (Shelve s) x y = ap (told o (placed o p (item n (stored o s)))) (same-decision (item n (stored o s)) s x y)
+  same-answer (Shelve s) x y = same-item (Shelve s) x y
   same-answer Count x y = refl
   same-answer (Withdraw named) x y = refl
   same-answer (Switch r) x y = refl
+  same-answer (Reserve least greatest) x y = same-item (Reserve least greatest) x y
+  same-answer (Settle named size) x y = refl
 
   same-next : (c : Command) → isSpent (answerTo o left p n c) ≡ false → isSpent (answerTo o left′ p n c) ≡ false → next o left p n c ≡ next o left′ p n c
   same-next c x y = ap (λ a. if isRefused a then p else done o p n c) (same-answer c x y)

@@ -1,18 +1,18 @@
 -- Without the refused commands every other one is answered as it was, and the items lie as they lay, under their new numbers; so it is of the accepted
--- items and withdrawals alone, with the commands 05. The run of the commands that are kept follows the whole run.
+-- items, withdrawals and settlings alone, with the commands 05. The run of the commands that are kept follows the whole run.
 use Prim.Native.Nat.{ℕ, suc, _+_, _≤_, _<_}
 use mathlib.Core.Path.{_≡_, refl, sym, ap, subst, _∙_}
 use mathlib.Core.Logic.{⊎-elim}
-use mathlib.Core.Bool.{Bool, true, false, not, _||_, _&&_, false≢true, and-true, and-false}
+use mathlib.Core.Bool.{Bool, true, false, not, _&&_, false≢true, and-true, and-false}
 use mathlib.Core.List.{List, [], _∷_, map, List·Memᴰ·not-nil}
 use native.Mathlib.Nat.{eq-or-lt-of-le}
 use native.Mathlib.Omega.{arith}
 use borrow.Author.Tests.{le-leb, lt-leb}
 use Rattle.packing.specs.declared.{Opening.Opening, Production.Production, Command.Command, Outcome.Outcome}
 use Rattle.packing.specs.declared.Production.the-variants.{First, Second}
-use Rattle.packing.specs.declared.Outcome.the-variants.{Placed, Counted, Withdrawn, Switched, Refused}
+use Rattle.packing.specs.declared.Outcome.the-variants.{Placed, Counted, Withdrawn, Switched, Settled, Refused}
 use Rattle.packing.specs.Prelude.{if_then_else_, total, keep, _≤?_}
-use Rattle.packing.specs.Refusals.{isRefused, isPlaced, isWithdrawn, isSwitched}
+use Rattle.packing.specs.Refusals.{isRefused}
 use Rattle.packing.specs.Productions.{isSame}
 use Rattle.packing.specs.Bins.{empty}
 use Rattle.packing.specs.Shelves.{Shelf, emptyShelf, of, own, stockLeft}
@@ -20,7 +20,7 @@ use Rattle.packing.specs.Run.{Step, Shelved, shelving, shelvedBy, answerOn, nex
 use Rattle.alike.specs.LeftOut.{notRefused, changes, renamed, newNumber, renumberedShelf, renumberedShelved}
 use Rattle.alike.specs.Claims.{SameWithout, RefusedLeftOut}
 use Rattle.packing.proofs.Weights.{oneFor, total-passing}
-use Rattle.packing.proofs.Moves.{move, unchanged, unchanged-shelf}
+use Rattle.packing.proofs.Moves.{move, isChange, unchanged, unchanged-shelf}
 use Rattle.alike.proofs.Renumbering.{Marks, Marked, Listed, SameList, same-list, same-on}
 
 of-empty : (q : Production) → of q emptyShelf ≡ empty
@@ -185,11 +185,12 @@ module _ (o : Opening) (kept : Step → Bool) (changing : (t : Step) → changes
       record { same-outcomes = all First .same-outcomes; same-shelf = all First .same-shelf; same-shelved = λ q. all q .same-shelved }
 
 -- No command that is refused changes anything, so both tests are such.
-changes-accepted : (a : Outcome) → (isPlaced a || isWithdrawn a || isSwitched a) ≡ true → not (isRefused a) ≡ true
+changes-accepted : (a : Outcome) → isChange a ≡ true → not (isRefused a) ≡ true
 changes-accepted (Placed bin free) e = refl
 changes-accepted (Counted opened) e = refl
 changes-accepted (Withdrawn bin free) e = refl
 changes-accepted (Switched r) e = refl
+changes-accepted (Settled bin free) e = refl
 changes-accepted (Refused reason) e = e
 
 pub refused-left-out : (o : Opening) (cs : List Command) → RefusedLeftOut o cs

@@ -1,9 +1,9 @@
--- A command under another number: an item is placed as before, since placing reads no number; and a withdrawal takes out the same item, since the new
--- numbers tell the items on the shelf apart.
+-- A command under another number: an item is placed as before, since placing reads no number; and a withdrawal takes out the same item, and a settling
+-- settles the same one, since the new numbers tell the items on the shelf apart.
 use Prim.Native.Nat.{ℕ, zero, suc, _-_, _<_}
-use mathlib.Core.Path.{_≡_, refl, sym, ap, subst}
+use mathlib.Core.Path.{_≡_, refl, sym, ap, subst, _∙_}
 use mathlib.Core.Logic.{⊎-elim}
-use mathlib.Core.Bool.{Bool, true, false, not, false≢true}
+use mathlib.Core.Bool.{Bool, true, false, not, _&&_, false≢true}
 use mathlib.Core.List.{List, [], _∷_, map, map-map, map-append}
 use mathlib.Core.List.{List·Memᴰ, List·Memᴰ·head, List·Memᴰ·tail, List·Memᴰ·not-nil, List·Memᴰ·append-cases, List·Memᴰ·eq-of-singleton}
 use native.Mathlib.Decide.{decLt}
@@ -13,24 +13,42 @@ use lib.Dec.{eqb}
 use lib.ListN.{length-map}
 use Rattle.packing.specs.declared.{Opening.Opening, Production.Production, Command.Command, Outcome.Outcome}
 use Rattle.packing.specs.declared.Production.the-variants.{First, Second}
-use Rattle.packing.specs.declared.Command.the-variants.{Shelve, Count, Withdraw, Switch}
-use Rattle.packing.specs.Prelude.{total, any}
+use Rattle.packing.specs.declared.Command.the-variants.{Shelve, Count, Withdraw, Switch, Reserve, Settle}
+use Rattle.packing.specs.Prelude.{if_then_else_, total, any}
 use Rattle.packing.specs.Refusals.{isRefused}
 use Rattle.packing.specs.SizeClasses.{isA}
-use Rattle.packing.specs.Bins.{Item, Bin, Packing, load, add, kind, freeOn, stored}
+use Rattle.packing.specs.Bins.{Item, Bin, Packing, load, add, kind, freeOn, stored, holds, unsettled, inRange}
 use Rattle.packing.specs.Placing.{Target, toClass, besideA, classOf, firstFit, put, permitted, target, takes, placed}
 use Rattle.packing.specs.Withdrawing.{isNamed, holdsNamed, emptiedOf, without, withdrawal}
+use Rattle.packing.specs.Settling.{settledTo, awaits, admits, settled, settledBin, settling, settlement}
+use Rattle.packing.specs.Sending.{shelvesItem, fault, itemOf}
 use Rattle.packing.specs.Productions.{other}
 use Rattle.packing.specs.Shelves.{Shelf, of, own, stockLeft, putBack, belonging}
-use Rattle.packing.specs.Run.{item, Shelved, shelving, answerTo, next, answerOn, nextShelf}
+use Rattle.packing.specs.Run.{Shelved, settledThere, shelving, shelvedAs, answerTo, done, next, answerOn, nextShelf}
 use Rattle.alike.specs.LeftOut.{renamed, renumber, renumberedBin, renumbered, renumberedShelf, renumberedShelved}
 use Rattle.packing.proofs.Tests.{each-cons, each-map, each-keep}
 use Rattle.packing.proofs.Keeping.{if-map, keep-map}
 use Rattle.packing.proofs.Searching.{found, any-map}
 use Rattle.packing.proofs.Decided.{IsPlaced, goes-in, decides}
 use Rattle.packing.proofs.Putting.{fresh, put-each}
+use Rattle.packing.proofs.Settling.{admits-named, admits-awaits, settled-command}
 use Rattle.packing.proofs.Productions.{Whose, its-own, the-others, whose, own-after, other-after}
-use Rattle.packing.proofs.Moves.{Move, places, withdraws, counts, switches, refuses, move}
+use Rattle.packing.proofs.Moves.{Move, places, withdraws, settles, counts, switches, refuses, move}
+
+-- Two functions, one after the other, in either order.
+maps-meet : {A B : Type 0} (g : A → B) (h : A → A) (k : B → B) (l : List A) → ((a : A) → List·Memᴰ a l → k (g a) ≡ g (h a)) → map k (map g l) ≡ map g (map h l)
+maps-meet g h k [] r = refl
+maps-meet g h k (a ∷ l) r = cc (r a (List·Memᴰ·head refl), maps-meet g h k l (λ x m. r x (List·Memᴰ·tail m)))
+
+-- A command that shelves an item is answered as its item is decided of.
+item-answered : (o : Opening) (left : ℕ) (p : Packing) (n : ℕ) (c : Command) → shelvesItem c ≡ true
+    → (answerTo o left p n c ≡ shelvedAs o left p n c) × (done o p n c ≡ placed o p (itemOf o n c))
+item-answered o left p n (Shelve s) e = (refl, refl)
+item-answered o left p n Count e = absurd (false≢true e)
+item-answered o left p n (Withdraw named) e = absurd (false≢true e)
+item-answered o left p n (Switch r) e = absurd (false≢true e)
+item-answered o left p n (Reserve least greatest) e = (refl, refl)
+item-answered o left p n (Settle named size) e = absurd (false≢true e)
 
 module _ (f : ℕ → ℕ) where
   -- A number whose new one is greater than those of all numbers before it.
@@ -55,7 +73,7 @@ module _ (f : ℕ → ℕ) where
       go true e = eq-eqb (f a) (f b) (ap f (eqb-true a b e))
       go false e = ne-eqb (f a) (f b) (λ x. elim (decLt a b) [ yes l ↦ omega (arith, k a l) | no l ↦ omega (arith, h b (omega (arith, eqb-false a b e))) ])
 
-  -- The number that a withdrawal finds is that of an item.
+  -- The number that a withdrawal or a settling finds is that of an item.
   name-marked : (named : ℕ) (bins : List Bin) → ((b : Bin) → List·Memᴰ b bins → MarkedBin b) → any (holdsNamed named) bins ≡ true → Marks named
   name-marked named bins h e =
       let bin = found (holdsNamed named) bins e in
@@ -75,9 +93,45 @@ module _ (f : ℕ → ℕ) where
   bins-naming named k (b ∷ bs) h =
       let rest = bins-naming named k bs (λ x m. h x (List·Memᴰ·tail m)) in
       let marked = h b (List·Memᴰ·head refl) in
-      let holds = any-map (renumber f) (isNamed named) (isNamed (f named)) (b .items) (λ i m. told-apart (marked i m) k) in
+      let held = any-map (renumber f) (isNamed named) (isNamed (f named)) (b .items) (λ i m. told-apart (marked i m) k) in
       let left = keep-map (renumber f) (λ i. not (isNamed named i)) (λ i. not (isNamed (f named) i)) (b .items) (λ i m. ap not (told-apart (marked i m) k)) in
       (cc, cc, cc)
+
+  -- So with one that is settled: whether it awaits its size and admits this one, and what it and the bins are then.
+  module _ (named size : ℕ) (k : Marks named) where
+    admits-renumbered : (i : Item) → Marks (i .command) → admits (f named) size (renumber f i) ≡ admits named size i
+    admits-renumbered i m = ap (λ t. t && inRange size i) (told-apart m k)
+
+    awaits-renumbered : (i : Item) → Marks (i .command) → awaits (f named) (renumber f i) ≡ awaits named i
+    awaits-renumbered i m = ap (λ t. t && unsettled i) (told-apart m k)
+
+    settled-renumbered : (i : Item) → Marks (i .command) → settled (f named) size (renumber f i) ≡ renumber f (settled named size i)
+    settled-renumbered i m =
+        ap (λ t. if t then settledTo size (renumber f i) else renumber f i) (admits-renumbered i m)
+        ∙ sym (if-map (renumber f) (admits named size i) (settledTo size i) i)
+
+    bins-settling : (bins : List Bin) → ((b : Bin) → List·Memᴰ b bins → MarkedBin b)
+        → (any (holds (awaits (f named))) (map (renumberedBin f) bins) ≡ any (holds (awaits named)) bins)
+        × (any (holds (admits (f named) size)) (map (renumberedBin f) bins) ≡ any (holds (admits named size)) bins)
+        × (map (settledBin (f named) size) (map (renumberedBin f) bins) ≡ map (renumberedBin f) (map (settledBin named size) bins))
+    unfolding any
+    bins-settling [] h = (refl, refl, refl)
+    bins-settling (b ∷ bs) h =
+        let rest = bins-settling bs (λ x m. h x (List·Memᴰ·tail m)) in
+        let marked = h b (List·Memᴰ·head refl) in
+        let awaited = any-map (renumber f) (awaits named) (awaits (f named)) (b .items) (λ i m. awaits-renumbered i (marked i m)) in
+        let admitted = any-map (renumber f) (admits named size) (admits (f named) size) (b .items) (λ i m. admits-renumbered i (marked i m)) in
+        let after = maps-meet (renumber f) (settled named size) (settled (f named) size) (b .items) (λ i m. settled-renumbered i (marked i m)) in
+        (cc, cc, cc)
+
+  -- A command that shelves an item is sent as it was: it names none.
+  renamed-item : (c : Command) → shelvesItem c ≡ true → renamed f c ≡ c
+  renamed-item (Shelve s) e = refl
+  renamed-item Count e = refl
+  renamed-item (Withdraw named) e = absurd (false≢true e)
+  renamed-item (Switch r) e = refl
+  renamed-item (Reserve least greatest) e = refl
+  renamed-item (Settle named size) e = absurd (false≢true e)
 
   module _ (o : Opening) where
     -- The free units of a bin, for which the B2 count is nothing.
@@ -112,14 +166,18 @@ module _ (f : ℕ → ℕ) where
           pub marked : Marked q
 
         same-move : Marked p → Marks n → {c : Command} {a : Outcome} {q : Packing} → Move o left p n c a q → not (isRefused a) ≡ true → Same c a q
-        unfolding placed without withdrawal
-        same-move h k (places {s = s} d) r =
-            let i = item n (stored o s) in
+        unfolding placed without withdrawal settling settlement
+        same-move h k (places {c = c} g) r =
+            let d = g .is-placed in
+            let i = itemOf o n c in
             let new = fresh (classOf (target o p i)) in
             let bins = bins-placing i new (p .bins) in
             let opened = length-map (p .bins) (renumberedBin f) in
-            let again : IsPlaced o (renumbered f p) (renumber f i) left s = record { some = d .some; within-capacity = d .within-capacity; not-spent = cc (d .not-spent) } in
-            let decided = decides o (renumbered f p) (renumber f i) left s _ (goes-in again) in
+            let again : IsPlaced o (renumbered f p) (renumber f i) left (fault c) =
+            record { faultless = d .faultless; within-capacity = d .within-capacity; not-spent = cc (d .not-spent) } in
+            let decided = decides o (renumbered f p) (renumber f i) left (fault c) _ (goes-in again) in
+            let sent = renamed-item c (g .shelves) in
+            let as-item = item-answered o left (renumbered f p) (f n) c (g .shelves) in
             let free = free-renumbered (firstFit (takes o p i) (p .bins)) (placed o p i .bins) in
             record {
               answer = cc;
@@ -138,6 +196,21 @@ module _ (f : ℕ → ℕ) where
               marked =
                   each-map (emptiedOf named) MarkedBin (p .bins) (λ b m. each-keep (λ i. not (isNamed named i)) (λ i. Marks (i .command)) (b .items) (h b m));
             }
+        same-move h k (settles {named = named} {size = size} e) r =
+            let s = stored o size in
+            let there = admits-named named s (p .bins) e in
+            let unsettled-there = admits-awaits named s (p .bins) e in
+            let marks = name-marked named (p .bins) h there in
+            let found-there = bins-naming named marks (p .bins) h in
+            let bins = bins-settling named s marks (p .bins) h in
+            let free = free-renumbered (firstFit (holdsNamed named) (p .bins)) (settling named s p .bins) in
+            record {
+              answer = cc;
+              after = cc;
+              marked =
+                  each-map (settledBin named s) MarkedBin (p .bins)
+                  (λ b m. each-map (settled named s) (λ i. Marks (i .command)) (b .items) (λ i x. subst Marks (sym (settled-command named s i)) (h b m i x)));
+            }
         same-move h k counts r = record { answer = cc (length-map (p .bins) (renumberedBin f)); after = refl; marked = h }
         same-move h k switches r = record { answer = refl; after = refl; marked = h }
         same-move h k (refuses z) r = absurd (false≢true r)
@@ -148,9 +221,9 @@ module _ (f : ℕ → ℕ) where
           pub listed : Listed (shelving o n c a on)
 
         pub same-list : Marked p → Marks n → (on : List Shelved) → Listed on → {c : Command} {a : Outcome} {q : Packing} → Move o left p n c a q → SameList on c a
-        same-list h k on l (places d) =
+        same-list h k on l (places {c = c} d) =
             record {
-              shelved = sym (map-append (renumberedShelved f) on _);
+              shelved = rw (renamed-item c (d .shelves)) (sym (map-append (renumberedShelved f) on _));
               listed = λ x m. ⊎-elim (l x) (λ e. subst (λ y. Marks (y .item .command)) (sym (List·Memᴰ·eq-of-singleton e)) k) (List·Memᴰ·append-cases on m);
             }
         same-list h k on l (withdraws {named = named} e) =
@@ -159,6 +232,15 @@ module _ (f : ℕ → ℕ) where
               shelved =
                   keep-map (renumberedShelved f) (λ s. not (isNamed named (s .item))) (λ s. not (isNamed (f named) (s .item))) on (λ s m. ap not (told-apart (l s m) marks));
               listed = each-keep (λ s. not (isNamed named (s .item))) (λ s. Marks (s .item .command)) on l;
+            }
+        same-list h k on l (settles {named = named} {size = size} e) =
+            let s = stored o size in
+            let marks = name-marked named (p .bins) h (admits-named named s (p .bins) e) in
+            record {
+              shelved =
+                  maps-meet (renumberedShelved f) (settledThere named s) (settledThere (f named) s) on
+                  (λ x m. ap (λ i. record { item = i; bin = x .bin }) (settled-renumbered named s marks (x .item) (l x m)));
+              listed = each-map (settledThere named s) (λ x. Marks (x .item .command)) on (λ x m. subst Marks (sym (settled-command named s (x .item))) (l x m));
             }
         same-list h k on l counts = record { shelved = refl; listed = l }
         same-list h k on l switches = record { shelved = refl; listed = l }
@@ -182,6 +264,8 @@ module _ (f : ℕ → ℕ) where
     belonging-renamed q Count = refl
     belonging-renamed q (Withdraw named) = refl
     belonging-renamed q (Switch r) = refl
+    belonging-renamed q (Reserve least greatest) = refl
+    belonging-renamed q (Settle named size) = refl
 
     module _ (s : Shelf) (n : ℕ) (c : Command) where
       pub record SameOn : Type 0 where

@@ -21,7 +21,7 @@ module _ (o : Opening) (cs : List Command) where
     pub same-shelf : shelf o (resent kept (run o cs)) ≡ renumberedShelf (newNumber kept (run o cs)) (shelf o cs)
     pub same-shelved : (q : Production) → stillShelved o q (resent kept (run o cs)) ≡ map (renumberedShelved (newNumber kept (run o cs))) (stillShelved o q cs)
 
-  -- So it is if the refused commands had not been sent; and if the accepted items and withdrawals alone had been sent, and the commands 05.
+  -- So it is if the refused commands had not been sent; and if the accepted items, withdrawals and settlings alone had been sent, and the commands 05.
   pub record RefusedLeftOut : Type 0 where
     pub refused : SameWithout notRefused
     pub alone : SameWithout changes

@@ -1,8 +1,8 @@
 -- Two lists of commands that differ in one production: "the other production's answers are equal".
 use Rattle.packing.specs.declared.{Opening.Opening, Production.Production, Command.Command, Outcome.Outcome}
 use Rattle.packing.specs.declared.Production.the-variants.{First}
-use Rattle.packing.specs.declared.Outcome.the-variants.{Placed, Counted, Withdrawn, Switched, Refused}
-use Rattle.packing.specs.declared.ItemReason.the-variants.{SizeZero, AboveCapacity, StockSpent, NotShelved}
+use Rattle.packing.specs.declared.Outcome.the-variants.{Placed, Counted, Withdrawn, Switched, Settled, Refused}
+use Rattle.packing.specs.declared.ItemReason.the-variants.{SizeZero, AboveCapacity, StockSpent, NotShelved, RangeWrong, NotReserved, OutsideRange}
 use Rattle.packing.specs.Prelude.{ℕ, _<_, _≡_, Bool, true, false, not, List, [], _∷_, map, length, take, drop, getD, any}
 use Rattle.packing.specs.Productions.{other}
 use Rattle.packing.specs.Shelves.{isSwitch, belonging}
@@ -21,10 +21,14 @@ isSpent (Placed bin free) = false
 isSpent (Counted opened) = false
 isSpent (Withdrawn bin free) = false
 isSpent (Switched r) = false
+isSpent (Settled bin free) = false
 isSpent (Refused SizeZero) = false
 isSpent (Refused AboveCapacity) = false
 isSpent (Refused StockSpent) = true
 isSpent (Refused NotShelved) = false
+isSpent (Refused RangeWrong) = false
+isSpent (Refused NotReserved) = false
+isSpent (Refused OutsideRange) = false
 
 -- "Neither stream has a refusal 10": this one has none.
 abbrev pub noneSpent : Opening → List Command → Bool

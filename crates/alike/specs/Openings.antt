@@ -1,7 +1,7 @@
 -- The two openings beside each other: a stream that begins with 01, and the same with 11 and a trailer of 0 in its place; commands under a trailer, and
 -- the same without one, by their stored sizes.
 use Rattle.packing.specs.declared.{Opening.Opening, Command.Command}
-use Rattle.packing.specs.declared.Command.the-variants.{Shelve, Count, Withdraw, Switch}
+use Rattle.packing.specs.declared.Command.the-variants.{Shelve, Count, Withdraw, Switch, Reserve, Settle}
 use Rattle.packing.specs.Prelude.{ℕ, zero, suc, _+_, List, _∷_, _++_, take, drop, _=?_, if_then_else_}
 use Rattle.packing.specs.Bins.{stored}
 use Rattle.packing.specs.Streams.{openingWidth, Read, accepted, refused}
@@ -28,9 +28,12 @@ moved (refused reason offset) = refused reason (twoLater offset)
 abbrev pub noTrailer : Opening → Opening
 noTrailer o = record { capacity = o .capacity; stock = o .stock; m = o .m; trailer = 0 }
 
--- The same command there: it shelves an item by its stored size, and a size of 0 by 0.
+-- The same command there: it shelves an item by its stored size, or by the stored sizes of its range, and settles one by its stored size. A size of 0 stays
+-- 0, and so does a least of 0: 8 and 19 go by the bare sizes, and with its trailer it would pass them.
 abbrev pub byStored : Opening → Command → Command
 byStored o (Shelve size) = Shelve (if size =? 0 then 0 else stored o size)
 byStored o Count = Count
 byStored o (Withdraw named) = Withdraw named
 byStored o (Switch r) = Switch r
+byStored o (Reserve least greatest) = Reserve (if least =? 0 then 0 else stored o least) (stored o greatest)
+byStored o (Settle named size) = Settle named (stored o size)

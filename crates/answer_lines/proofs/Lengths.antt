@@ -10,7 +10,7 @@ use Rattle.packing.specs.declared.Production.the-variants.{First, Second}
 use Rattle.packing.specs.declared.Outcome.the-variants.{Switched, Refused}
 use Rattle.packing.specs.Limits.{mostCapacity}
 use Rattle.packing.specs.Refusals.{itemNumber}
-use Rattle.packing.proofs.Given.{item-number-few, Told, placed-in, counted, withdrawn-from, switched-to, refused-item, refused-out}
+use Rattle.packing.proofs.Given.{item-number-few, Told, placed-in, counted, withdrawn-from, switched-to, settled-in, refused-item, refused-out, refused-settling}
 use Rattle.text.specs.Lines.{line}
 use Rattle.text.proofs.Lengths.{line-few, long-line-few}
 use Rattle.answer_lines.specs.Lines.{lineOf, mostOfALine}
@@ -31,10 +31,12 @@ switched-few number l r = go r
 
 pub answer-line-few : (o : Opening) → o .stock ≤ 512 → o .capacity ≤ mostCapacity → (number : ℕ) → number ≤ 4096 → (c : Command) (a : Outcome)
     → Told o c a → length (lineOf number a) ≤ mostOfALine
-answer-line-few o stock capacity number l c a (placed-in {bin = bin} {free = free} m r) =
+answer-line-few o stock capacity number l c a (placed-in {bin = bin} {free = free} e m r) =
     long-line-few (code "P") 3 2 7 number bin free (omega arith) (omega arith) (omega arith)
 answer-line-few o stock capacity number l c a (counted {count = count} m) = omega (arith, line-few (code "C") 3 2 number count (omega arith) (omega arith))
 answer-line-few o stock capacity number l c a (withdrawn-from {bin = bin} m r) = omega (arith, line-few (code "O") 3 2 number bin (omega arith) (omega arith))
 answer-line-few o stock capacity number l c a (switched-to {r = r}) = switched-few number l r
-answer-line-few o stock capacity number l c a (refused-item {reason = reason}) = refused-few number l reason
+answer-line-few o stock capacity number l c a (settled-in {bin = bin} m r) = omega (arith, line-few (code "F") 3 2 number bin (omega arith) (omega arith))
+answer-line-few o stock capacity number l c a (refused-item {reason = reason} e) = refused-few number l reason
 answer-line-few o stock capacity number l c a (refused-out {reason = reason}) = refused-few number l reason
+answer-line-few o stock capacity number l c a (refused-settling {reason = reason}) = refused-few number l reason

@@ -3,19 +3,21 @@ use mathlib.Core.List.{List, [], _∷_, map, flatten}
 use Prim.Native.Nat.{ℕ, _*_}
 use Prim.Native.Char.{code}
 use Rattle.packing.specs.declared.{Outcome.Outcome, Answer.Answer}
-use Rattle.packing.specs.declared.Outcome.the-variants.{Placed, Counted, Withdrawn, Switched, Refused}
+use Rattle.packing.specs.declared.Outcome.the-variants.{Placed, Counted, Withdrawn, Switched, Settled, Refused}
 use Rattle.packing.specs.Limits.{mostCommands}
 use Rattle.packing.specs.Productions.{productionNumber}
 use Rattle.packing.specs.Refusals.{itemNumber}
 use Rattle.text.specs.Lines.{line}
 
 -- "`P` command cartridge; `C` command count; `R` command refusal", "`P` lines gain the figure at their end", "`shelve` prints `O` command cartridge",
--- without the free units, and 05 is "printed as `S` command production": by what the command of this number comes to.
+-- without the free units, 05 is "printed as `S` command production", and 07 "as `F` command cartridge", without them too: by what the command of this
+-- number comes to. 06 "prints a `P` line".
 abbrev pub lineOf : (number : ℕ) → Outcome → List ℕ
 lineOf number (Placed bin free) = line (code "P") (number ∷ bin ∷ free ∷ [])
 lineOf number (Counted opened) = line (code "C") (number ∷ opened ∷ [])
 lineOf number (Withdrawn bin free) = line (code "O") (number ∷ bin ∷ [])
 lineOf number (Switched r) = line (code "S") (number ∷ productionNumber r ∷ [])
+lineOf number (Settled bin free) = line (code "F") (number ∷ bin ∷ [])
 lineOf number (Refused reason) = line (code "R") (number ∷ itemNumber reason ∷ [])
 
 abbrev pub answerLine : Answer → List ℕ

@@ -2,9 +2,21 @@
 use limits::MOST_COMMANDS;
 use packing::Answer;
 use packing::Outcome;
+ghost use mathlib.Core.List.{_∷_, []};
+ghost use Rattle.text.specs.Lines.{line};
 ghost use Rattle.text.specs.Writing.{Room, Wrote};
 ghost use Rattle.answer_lines.specs.Lines.{answerLine};
 ghost use Rattle.answer_lines.specs.Writing.{Listable, Listed};
+
+// A line of a letter, the command's number and one figure more.
+fn put_pair(out: &mut [u8], at: usize, letter: u8, number: usize, word: u16) -> usize
+    requires { ⌜ Room (now out) at (line letter (number ∷ word ∷ [])) ⌝ }
+    ensures { λ r. ⌜ Wrote (now (out .entry)) at (line letter (number ∷ word ∷ [])) r (now (out .exit)) ⌝ }
+{
+    let figure = word as usize;
+    let figures = [number, figure];
+    text::put_line(out, at, letter, &figures)
+}
 
 // The line of an answer.
 fn put_answer(out: &mut [u8], at: usize, answer: Answer) -> usize
@@ -20,25 +32,16 @@ fn put_answer(out: &mut [u8], at: usize, answer: Answer) -> usize
             let figures = [number, bin, free];
             text::put_line(out, at, b'P', &figures)
         }
-        Outcome::Counted(opened) => {
-            let opened = opened as usize;
-            let figures = [number, opened];
-            text::put_line(out, at, b'C', &figures)
-        }
-        Outcome::Withdrawn { bin, free: _ } => {
-            let bin = bin as usize;
-            let figures = [number, bin];
-            text::put_line(out, at, b'O', &figures)
-        }
+        Outcome::Counted(opened) => put_pair(out, at, b'C', number, opened),
+        Outcome::Withdrawn { bin, free: _ } => put_pair(out, at, b'O', number, bin),
         Outcome::Switched(production) => {
-            let production = refusals::production_number(production) as usize;
-            let figures = [number, production];
-            text::put_line(out, at, b'S', &figures)
+            let byte = refusals::production_number(production);
+            put_pair(out, at, b'S', number, byte)
         }
+        Outcome::Settled { bin, free: _ } => put_pair(out, at, b'F', number, bin),
         Outcome::Refused(reason) => {
-            let refusal = refusals::item_number(reason) as usize;
-            let figures = [number, refusal];
-            text::put_line(out, at, b'R', &figures)
+            let refusal = refusals::item_number(reason);
+            put_pair(out, at, b'R', number, refusal)
         }
     }
 }

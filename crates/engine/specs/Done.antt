@@ -12,7 +12,7 @@ use Rattle.aim.specs.declared.Counters.{Counters}
 use Rattle.engine.specs.declared.Answered.{Answered}
 use Rattle.engine.specs.Store.{Store, Sound, Represents}
 
--- "An answer joins the command's number with placed, counted or refused", or withdrawn or switched.
+-- "An answer joins the command's number with placed, counted or refused", or withdrawn, switched or settled.
 abbrev pub answering : ℕ → Outcome → Answer
 answering number a = record { number = number; outcome = a }
 

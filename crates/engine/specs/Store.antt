@@ -1,9 +1,12 @@
 -- The engine's store: trees, ledger, notes and counters. Ledger and notes, with the counters, record a packing; the trees are an index over the ledger.
 use mathlib.Core.Path.{_≡_}
+use mathlib.Core.Bool.{true}
 use mathlib.Core.List.{List}
+use mathlib.Core.Option.{none}
 use Prim.Native.Nat.{ℕ, _%_, _≤_, _<_}
-use Rattle.packing.specs.declared.Opening.{Opening}
-use Rattle.packing.specs.Bins.{Packing, empty, opened}
+use Rattle.packing.specs.declared.{Opening.Opening, Command.Command}
+use Rattle.packing.specs.Bins.{Packing, empty, opened, stored}
+use Rattle.packing.specs.Sending.{shelvesItem, sizeOf, fault}
 use Rattle.tournament.specs.declared.Shape.{Shape}
 use Rattle.tournament.specs.Shapes.{Fitted}
 use Rattle.aim.specs.declared.Counters.{Counters}
@@ -50,6 +53,13 @@ pub record Ready (o : Opening) (left : ℕ) (shape : Shape) (number : ℕ) (s : 
   pub room : s .counters .items < 4294967295
   pub numbered : number < numbers
   pub new : binIn (noteAt (s .notes) number) ≡ 0
+
+-- It shelves an item, which has no fault, and which a bin can hold with its trailer.
+pub record Placeable (o : Opening) (left : ℕ) (shape : Shape) (number : ℕ) (command : Command) (s : Store) : Type 0 where
+  pub ready : Ready o left shape number s
+  pub sends : shelvesItem command ≡ true
+  pub faultless : fault command ≡ none
+  pub fits : stored o (sizeOf command) ≤ o .capacity
 
 -- The counters before the first command, and the trees, the ledger and the notes that with them stand for the empty packing.
 abbrev pub atOpening : Counters

@@ -7,6 +7,7 @@ use ledger::COLUMNS;
 use ledger::NOTE_WORDS;
 use ledger::NUMBERS;
 use packing::Answer;
+use packing::Command;
 use packing::ItemReason;
 use packing::Opening;
 use packing::Outcome;
@@ -17,12 +18,12 @@ use tournament::Shape;
 use tournament::looks;
 use tournament::looks::Looks;
 ghost use mathlib.Core.Path.{_≡_};
+ghost use mathlib.Core.Bool.{true};
 ghost use Prim.Native.Nat.{_-_, _≤_, _<_};
-ghost use Rattle.packing.specs.declared.Command.the-variants.{Shelve};
 ghost use Rattle.packing.specs.declared.Outcome.the-variants.{Refused};
-ghost use Rattle.packing.specs.Bins.{stored};
+ghost use Rattle.packing.specs.Sending.{shelvesItem};
 ghost use Rattle.index.specs.Trees.{Forest};
-ghost use Rattle.engine.specs.Store.{store, Ready};
+ghost use Rattle.engine.specs.Store.{store, Ready, Placeable};
 ghost use Rattle.engine.specs.Spots.{Offers};
 ghost use Rattle.engine.specs.Done.{giving, Done};
 
@@ -120,7 +121,8 @@ pub fn refuse(number: usize, reason: ItemReason, counters: Counters, looks: Look
     give(number, Outcome::Refused(reason), counters, looks)
 }
 
-// An item that a bin can hold with its trailer: to the first permitted bin with space, else to a new one, else refused. All goes by the stored size.
+// An item without a fault that a bin can hold with its trailer: to the first permitted bin with space, else to a new one, else refused. All goes by the
+// stored size; of 06 it is the greatest, and the least is noted too.
 fn place_fitting(
     trees: &mut [u32; ROW_WORDS],
     ledger: &mut [[u32; COLUMNS]; BINS],
@@ -128,14 +130,13 @@ fn place_fitting(
     terms: Terms,
     counters: Counters,
     number: usize,
-    size: u32,
+    command: Command,
 ) -> Answered
-    requires ready { ⌜ Ready (terms .opening) (terms .left) (terms .shape) number (store (now trees) (now ledger) (now notes) counters) ⌝ }
-    requires some { ⌜ 1 ≤ size ⌝ }
-    requires fits { ⌜ stored (terms .opening) size ≤ terms .opening .capacity ⌝ }
-    ensures { λ r. ⌜ Done (terms .opening) (terms .left) (terms .shape) (store (now (trees .entry)) (now (ledger .entry)) (now (notes .entry)) counters) number (Shelve size) (r .answer) (r .looks .count) (store (now (trees .exit)) (now (ledger .exit)) (now (notes .exit)) (r .next)) ⌝ }
+    requires { ⌜ Placeable (terms .opening) (terms .left) (terms .shape) number command (store (now trees) (now ledger) (now notes) counters) ⌝ }
+    ensures { λ r. ⌜ Done (terms .opening) (terms .left) (terms .shape) (store (now (trees .entry)) (now (ledger .entry)) (now (notes .entry)) counters) number command (r .answer) (r .looks .count) (store (now (trees .exit)) (now (ledger .exit)) (now (notes .exit)) (r .next)) ⌝ }
 {
     let opening = terms.opening;
+    let size = sending::size_of(command);
     let stored = size + opening.trailer as u32;
     let tree = aim::tree_for(stored, opening.capacity, counters.b2);
     let offered = find_spot(trees, terms, counters.opened, tree, stored);
@@ -153,7 +154,8 @@ fn place_fitting(
     let outcome = Outcome::Placed { bin, free };
     let row = ledger::enter(ledger, place, class, free, a);
     let lies = bin as u32;
-    let note = [lies, stored];
+    let least = sending::least_word(opening, command);
+    let note = [lies, stored, least, stored];
     notes[number] = note;
     // Last: how far a store climbs is not foreseen by the processor, and nothing but the next command is to wait for it.
     index::show(trees, terms.shape, place, row);
@@ -173,8 +175,8 @@ fn largest(opening: Opening) -> u32
     }
 }
 
-// "Where a master goes": Refined First-Fit, one item. One test tells that its bare size is not 0 and that its stored size, which may be more than 32 bits
-// hold, is not above the capacity; which of the two it is, is asked only where the test fails.
+// "Where a master goes": Refined First-Fit, one item, of 02 or 06. One test tells that it has no fault and that its stored size, which may be more than 32
+// bits hold, is not above the capacity; which of the two it is, is asked only where the test fails.
 pub fn place(
     trees: &mut [u32; ROW_WORDS],
     ledger: &mut [[u32; COLUMNS]; BINS],
@@ -182,17 +184,19 @@ pub fn place(
     terms: Terms,
     counters: Counters,
     number: usize,
-    size: u32,
+    command: Command,
 ) -> Answered
-    requires { ⌜ Ready (terms .opening) (terms .left) (terms .shape) number (store (now trees) (now ledger) (now notes) counters) ⌝ }
-    ensures { λ r. ⌜ Done (terms .opening) (terms .left) (terms .shape) (store (now (trees .entry)) (now (ledger .entry)) (now (notes .entry)) counters) number (Shelve size) (r .answer) (r .looks .count) (store (now (trees .exit)) (now (ledger .exit)) (now (notes .exit)) (r .next)) ⌝ }
+    requires ready { ⌜ Ready (terms .opening) (terms .left) (terms .shape) number (store (now trees) (now ledger) (now notes) counters) ⌝ }
+    requires sends { ⌜ shelvesItem command ≡ true ⌝ }
+    ensures { λ r. ⌜ Done (terms .opening) (terms .left) (terms .shape) (store (now (trees .entry)) (now (ledger .entry)) (now (notes .entry)) counters) number command (r .answer) (r .looks .count) (store (now (trees .exit)) (now (ledger .exit)) (now (notes .exit)) (r .next)) ⌝ }
 {
     let most = largest(terms.opening);
-    if limits::is_within(1, most, size) {
-        return place_fitting(trees, ledger, notes, terms, counters, number, size);
+    if sending::may_fit(command, most) {
+        return place_fitting(trees, ledger, notes, terms, counters, number, command);
     }
-    if size == 0 {
-        return refuse(number, ItemReason::SizeZero, counters, looks::NONE);
+    if sending::faultless(command) {
+        return refuse(number, ItemReason::AboveCapacity, counters, looks::NONE);
     }
-    refuse(number, ItemReason::AboveCapacity, counters, looks::NONE)
+    let reason = sending::fault_of(command);
+    refuse(number, reason, counters, looks::NONE)
 }

@@ -3,28 +3,46 @@ use mathlib.Core.Path.{_≡_, ap, sym, _∙_}
 use mathlib.Core.Bool.{false, true≢false}
 use mathlib.Core.List.{List}
 use Prim.Native.Nat.{ℕ, _+_, _≤_}
-use native.Mathlib.Decide.{ℕ-discrete}
+use native.Mathlib.Decide.{decLe}
+use native.Mathlib.Omega.{arith}
+use lib.Dec.{eqb}
 use lib.ListN.{length}
 use borrow.Author.Tests.{ne-eqb}
+use Rattle.packing.specs.declared.{Command.Command}
 use Rattle.packing.specs.declared.Width.the-variants.{Known, Unknown}
 use Rattle.packing.specs.Streams.{isOpening, firstByte, widths, lookup}
 use Rattle.packing.proofs.Tests.{clash}
 use Rattle.packing.proofs.Fronts.{Passing}
+use Rattle.fronts.specs.declared.{WholeCommand.WholeCommand}
 use Rattle.fronts.specs.Fronts.{known, CommandThere}
 
--- Of the opcodes in the table that are no opening's, only a count's is neither an item's nor a withdrawal's nor that of 05.
-pub only-count : (opcode width : ℕ) → lookup opcode widths ≡ Known width → isOpening opcode ≡ false
-    → (opcode ≡ 2 → ⊥) → (opcode ≡ 4 → ⊥) → (opcode ≡ 5 → ⊥) → opcode ≡ 3
-unfolding widths lookup
-only-count opcode width known none item withdrawal switch = elim (ℕ-discrete opcode 3) [
-  | yes e ↦ e
-  | no count ↦
-      let first : opcode ≡ 0x01 → ⊥ = λ e. true≢false (sym (ap isOpening e) ∙ none) in
-      let second : opcode ≡ 0x11 → ⊥ = λ e. true≢false (sym (ap isOpening e) ∙ none) in
+-- A command and its width.
+abbrev pub with : Command → ℕ → WholeCommand
+with c width = record { command = c; width = width }
+
+-- The opcodes in the table that are no opening's are those from 2 to 7.
+module _ (opcode width : ℕ) (told : lookup opcode widths ≡ Known width) (none : isOpening opcode ≡ false) where
+  one-of-them : ((k : ℕ) → 2 ≤ k → k ≤ 7 → k ≡ opcode → ⊥) → ⊥
+  unfolding widths lookup
+  one-of-them other =
+      let first : 0x01 ≡ opcode → ⊥ = λ e. true≢false (ap isOpening e ∙ none) in
+      let second : 0x11 ≡ opcode → ⊥ = λ e. true≢false (ap isOpening e ∙ none) in
+      let not : (k : ℕ) → 2 ≤ k → k ≤ 7 → eqb k opcode ≡ false = λ k l m. ne-eqb k opcode (other k l m) in
       let nowhere : Unknown ≡ Known width =
-      rw (ne-eqb 0x01 opcode (λ e. first (sym e)), ne-eqb 2 opcode (λ e. item (sym e)), ne-eqb 3 opcode (λ e. count (sym e)), ne-eqb 4 opcode (λ e. withdrawal (sym e)), ne-eqb 5 opcode (λ e. switch (sym e)), ne-eqb 0x11 opcode (λ e. second (sym e))) at known in
+      rw (ne-eqb 0x01 opcode first, not 2 (omega arith) (omega arith), not 3 (omega arith) (omega arith), not 4 (omega arith) (omega arith), not 5 (omega arith) (omega arith), not 6 (omega arith) (omega arith), not 7 (omega arith) (omega arith), ne-eqb 0x11 opcode second) at told in
       clash (cc)
-]
+
+  pub from-2 : 2 ≤ opcode
+  from-2 = elim (decLe 2 opcode) [
+    | yes l ↦ l
+    | no l ↦ absurd (one-of-them (λ k a b e. l (omega arith)))
+  ]
+
+  pub to-7 : opcode ≤ 7
+  to-7 = elim (decLe opcode 7) [
+    | yes l ↦ l
+    | no l ↦ absurd (one-of-them (λ k a b e. l (omega arith)))
+  ]
 
 -- A known opcode that is no opening's has its command there where its operands are.
 pub command-there : (s : List ℕ) (width : ℕ) → lookup (firstByte s) widths ≡ Known width → isOpening (firstByte s) ≡ false → width + 1 ≤ length s

@@ -25,6 +25,11 @@ pub record CommandThere (opcode : ℕ) (s : List ℕ) : Type 0 where
   pub no-opening : model.isOpening opcode ≡ false
   pub inside : tableWidth opcode + 1 ≤ length s
 
+-- The same of one that has two operands.
+pub record TwoOperandsThere (opcode : ℕ) (s : List ℕ) : Type 0 where
+  pub there : CommandThere opcode s
+  pub above-5 : 5 < opcode
+
 -- The command of an opcode at the front of a stream, with its width in the table.
 abbrev pub commandWith : (opcode : ℕ) (s : List ℕ) → WholeCommand
 commandWith opcode s = record { command = model.commandOf opcode (drop 1 s); width = tableWidth opcode }

@@ -9,10 +9,10 @@ ghost use Prim.Native.Nat.{_≤_};
 ghost use lib.ListN.{length, drop};
 ghost use Rattle.packing.specs.Productions.{productionOf};
 ghost use Rattle.packing.specs.Streams.{isOpening, widths, lookup, namesNone, whole, frontOf, WholeFront};
-ghost use Rattle.fronts.specs.Fronts.{tableWidth, CommandThere, commandWith, InStream, Operand, means};
+ghost use Rattle.fronts.specs.Fronts.{tableWidth, CommandThere, TwoOperandsThere, commandWith, InStream, Operand, means};
 
 // "One table gives each command byte its operand width."
-const ROWS: usize = 6;
+const ROWS: usize = 8;
 
 const WIDTHS: [WidthRow; ROWS] = [
     WidthRow {
@@ -34,6 +34,14 @@ const WIDTHS: [WidthRow; ROWS] = [
     WidthRow {
         opcode: 5,
         width: 1,
+    },
+    WidthRow {
+        opcode: 6,
+        width: 8,
+    },
+    WidthRow {
+        opcode: 7,
+        width: 6,
     },
     WidthRow {
         opcode: 0x11,
@@ -127,6 +135,29 @@ fn names_none(opcode: u8, rest: &[u8]) -> bool
     false
 }
 
+// The command of an opcode that has two operands: 06, the least size and the greatest; 07, the number of a command and a size.
+fn two_operands_of(opcode: u8, rest: &[u8]) -> WholeCommand
+    requires { ⌜ TwoOperandsThere opcode (now rest) ⌝ }
+    ensures { λ r. ⌜ r ≡ commandWith opcode (now (rest .entry)) ⌝ }
+{
+    if opcode == 6 {
+        let least = operand(rest, 1, 4);
+        let greatest = operand(rest, 5, 4);
+        let width = table_width(6);
+        return WholeCommand {
+            command: Command::Reserve { least, greatest },
+            width,
+        };
+    }
+    let named = operand(rest, 1, 2);
+    let size = operand(rest, 3, 4);
+    let width = table_width(7);
+    WholeCommand {
+        command: Command::Settle { named, size },
+        width,
+    }
+}
+
 // The command of an opcode that is in the table and is no opening, whole with its operands, and its width. (With the opcode written out, the compiler
 // makes a constant of what the table has for it.)
 fn command_of(opcode: u8, rest: &[u8]) -> WholeCommand
@@ -157,6 +188,9 @@ fn command_of(opcode: u8, rest: &[u8]) -> WholeCommand
             command: Command::Switch(production),
             width,
         };
+    }
+    if 5 < opcode {
+        return two_operands_of(opcode, rest);
     }
     let width = table_width(3);
     WholeCommand {

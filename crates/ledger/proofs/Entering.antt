@@ -40,6 +40,8 @@ four p q r s = cc
 
 -- What is entered is what the model has of the bin that the item goes to.
 pub record IsEntry (o : Opening) (p : Packing) (i : Item) (place class free a : ℕ) : Type 0 where
+  -- It counts by the size that it is shelved by.
+  pub whole : i .size ≡ i .greatest
   pub fits : i .size ≤ o .capacity
   pub place-is : place ≡ passed o p i
   pub class-is : class ≡ chosen o p i .class
@@ -66,7 +68,7 @@ module _ {o : Opening} {p : Packing} {ledger : List (List ℕ)} (k : Records o l
     records-placed = record {
       whole = ap length (d .ledger-is) ∙ length-set ledger place row ∙ k .whole;
       row = λ j l. ap (λ (rows : List (List ℕ)). rowAt rows j) (d .ledger-is) ∙ here j l ∙ sym (put-at (rowOf o) blank (takes o p i) (newBin o p i) i (p .bins) j);
-      sound = sound-placed o p i (e .fits) (k .sound);
+      sound = sound-placed o p i (e .whole) (e .fits) (k .sound);
     }
       where
         here : (j : ℕ) → j < places → rowAt (set ledger place row) j ≡ (if eqb j (passed o p i) then rowOf o (add i (chosen o p i)) else rowFor o p j)

@@ -1,4 +1,4 @@
--- How many items a packing holds: no row says more, one more is held when one is placed, and one less when the noted one is taken out.
+-- How many items a packing holds: no row says more, one more is held when one is placed, and as many when one is settled.
 use mathlib.Core.Path.{_≡_}
 use mathlib.Core.List.{List, [], _∷_, map}
 use Prim.Native.Nat.{ℕ, zero, suc, _+_, _≤_, _<_}
@@ -9,7 +9,9 @@ use Rattle.packing.specs.Prelude.{total}
 use Rattle.packing.specs.SizeClasses.{isA}
 use Rattle.packing.specs.Bins.{Item, Bin, Packing, kind}
 use Rattle.packing.specs.Placing.{classOf, target, takes, placed}
+use Rattle.packing.specs.Settling.{settling}
 use Rattle.packing.proofs.Weights.{keep-few, weight-ones, put-weight}
+use Rattle.packing.proofs.Settling.{settled-weight}
 use Rattle.ledger.specs.Rows.{places, blank, rowAt, heldIn, heldAIn}
 use Rattle.ledger.specs.Records.{rowOf, itemsHeld, Records}
 
@@ -30,3 +32,7 @@ pub held-placed : (o : Opening) (p : Packing) (i : Item) → itemsHeld (placed o
 unfolding placed
 held-placed o p i =
     omega (arith, weight-ones (p .bins), weight-ones (placed o p i .bins), put-weight (λ j. 1) (takes o p i) (classOf (target o p i)) i (p .bins))
+
+pub held-settled : (named size : ℕ) (p : Packing) → itemsHeld (settling named size p) ≡ itemsHeld p
+unfolding settling
+held-settled named size p = omega (arith, weight-ones (p .bins), weight-ones (settling named size p .bins), settled-weight named size (λ j. 1) (p .bins))

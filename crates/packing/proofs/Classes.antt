@@ -10,11 +10,13 @@ use Rattle.packing.specs.Prelude.{if_then_else_, Opening, Production, Co
 use Rattle.packing.specs.Bins.{Item, Bin, Packing, opened, add, stored}
 use Rattle.packing.specs.Placing.{put, classOf, target, takes, placed}
 use Rattle.packing.specs.Withdrawing.{emptiedOf, without}
+use Rattle.packing.specs.Settling.{settledBin, settling}
 use Rattle.packing.specs.Shelves.{emptyShelf, of}
-use Rattle.packing.specs.Run.{item, Step, shelfFrom, shelf, packing}
+use Rattle.packing.specs.Sending.{itemOf}
+use Rattle.packing.specs.Run.{Step, shelfFrom, shelf, packing}
 use Rattle.packing.specs.Claims.{classesOf}
 use Rattle.packing.proofs.Putting.{fresh}
-use Rattle.packing.proofs.Moves.{Move, places, withdraws, counts, switches, refuses, Trace, ends, moves, trace-from}
+use Rattle.packing.proofs.Moves.{Move, places, withdraws, settles, counts, switches, refuses, Trace, ends, moves, trace-from}
 use Rattle.packing.proofs.Running.{shelf-append}
 
 -- The classes of q are those of p, and then some.
@@ -38,12 +40,13 @@ put-classes test new i (b ∷ bs) = go (test b) (put-classes test new i bs)
 
 module _ (o : Opening) where
   move-grown : {left n : ℕ} {p q : Packing} {c : Command} {a : Outcome} → Move o left p n c a q → Grown p q
-  unfolding placed without
-  move-grown {n = n} {p = p} (places {s = s} h) =
-      let i = item n (stored o s) in
+  unfolding placed without settling
+  move-grown {n = n} {p = p} (places {c = c} h) =
+      let i = itemOf o n c in
       let put = put-classes (takes o p i) (fresh (classOf (target o p i))) i (p .bins) in
       record { more = put .0; grown = put .1 }
   move-grown {p = p} {q = q} (withdraws {named = named} e) = grown-same p q (map-map (λ b. b .class) (emptiedOf named) (p .bins))
+  move-grown {p = p} {q = q} (settles {named = named} {size = size} e) = grown-same p q (map-map (λ b. b .class) (settledBin named (stored o size)) (p .bins))
   move-grown {p = p} counts = grown-same p p refl
   move-grown {p = p} switches = grown-same p p refl
   move-grown {p = p} (refuses z) = grown-same p p refl

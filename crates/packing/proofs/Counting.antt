@@ -12,12 +12,13 @@ use lib.ListN.{length}
 use Rattle.packing.specs.Prelude.{any, greatest, Opening, Production, Command, Entry, Tally}
 use Rattle.packing.specs.Bins.{Item, Bin, Packing, opened, kind, stored}
 use Rattle.packing.specs.Placing.{target, classOf, takes, binFor, placed}
-use Rattle.packing.specs.Run.{item, Step, entriesOf, placements}
+use Rattle.packing.specs.Sending.{itemOf}
+use Rattle.packing.specs.Run.{Step, entriesOf, placements}
 use Rattle.packing.specs.Counting.{stockPlaces, walk}
 use Rattle.packing.specs.Compared.{numberOpened}
 use Rattle.packing.proofs.Putting.{fresh, put-each}
-use Rattle.packing.proofs.Moves.{places, withdraws, counts, switches, refuses, Trace, ends, moves, trace}
-use Rattle.packing.proofs.Reached.{first-few, opens-class, opened-placed, opened-without}
+use Rattle.packing.proofs.Moves.{places, withdraws, settles, counts, switches, refuses, Trace, ends, moves, trace}
+use Rattle.packing.proofs.Reached.{first-few, opens-class, opened-placed, opened-without, opened-settling}
 use Rattle.packing.proofs.Numbers.{trace-opened, trace-entries}
 
 -- Some entry has the number n.
@@ -38,13 +39,14 @@ module _ (o : Opening) where
   opened-answered : (bin : ℕ) {n e : ℕ} {p q : Packing} {ts : List Step} → Trace o n p ts e q → opened p < bin → bin ≤ opened q → Answered bin (entriesOf o ts)
   unfolding any flatten
   opened-answered bin (ends z) l m = absurd (omega arith)
-  opened-answered bin (moves {k = k} {p = p} f b (places {s = s} h) r) l m = elim (ℕ-discrete (binFor o p (item k (stored o s))) bin) [
-    | yes q ↦ rw (eq-eqb (binFor o p (item k (stored o s))) bin q)
+  opened-answered bin (moves {k = k} {p = p} f b (places {c = c} h) r) l m = elim (ℕ-discrete (binFor o p (itemOf o k c)) bin) [
+    | yes q ↦ rw (eq-eqb (binFor o p (itemOf o k c)) bin q)
     | no q ↦
-        let further = opened-answered bin r (omega (arith, q, opened-placed o p (item k (stored o s)), first-few (takes o p (item k (stored o s))) (p .bins))) m in
-        rw (ne-eqb (binFor o p (item k (stored o s))) bin q) further
+        let further = opened-answered bin r (omega (arith, q, opened-placed o p (itemOf o k c), first-few (takes o p (itemOf o k c)) (p .bins))) m in
+        rw (ne-eqb (binFor o p (itemOf o k c)) bin q) further
   ]
   opened-answered bin (moves {p = p} f b (withdraws {named = named} e) r) l m = opened-answered bin r (omega (arith, opened-without o named p)) m
+  opened-answered bin (moves {p = p} f b (settles {named = named} {size = size} e) r) l m = opened-answered bin r (omega (arith, opened-settling o named (stored o size) p)) m
   opened-answered bin (moves f b counts r) l m = opened-answered bin r l m
   opened-answered bin (moves f b switches r) l m = opened-answered bin r l m
   opened-answered bin (moves f b (refuses z) r) l m = opened-answered bin r l m

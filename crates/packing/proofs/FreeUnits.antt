@@ -8,13 +8,14 @@ use borrow.Author.Tests.{leb-true, le-leb}
 use lib.ListN.{length, take, getD}
 use Rattle.packing.specs.Prelude.{total, Opening, Production, Command, Outcome}
 use Rattle.packing.specs.Refusals.{binsNamed, freeUnits}
-use Rattle.packing.specs.Bins.{Item, Bin, Packing, opened, load, itemsOf, freeOn, stored}
+use Rattle.packing.specs.Bins.{Item, Bin, Packing, opened, load, itemsOf, freeOn}
 use Rattle.packing.specs.Placing.{permitted, target, hasSpace, binFor}
 use Rattle.packing.specs.Withdrawing.{binHolding}
-use Rattle.packing.specs.Run.{item, packing}
+use Rattle.packing.specs.Sending.{itemOf}
+use Rattle.packing.specs.Run.{packing}
 use Rattle.packing.specs.Claims.{FreeOf, FreeUnits}
 use Rattle.packing.proofs.Tests.{clash, both-true}
-use Rattle.packing.proofs.Moves.{Move, places, withdraws, counts, switches, refuses}
+use Rattle.packing.proofs.Moves.{Move, places, withdraws, settles, counts, switches, refuses}
 use Rattle.packing.proofs.Reached.{reached}
 use Rattle.packing.proofs.Numbers.{opened-is}
 use Rattle.packing.proofs.Running.{move-at}
@@ -54,8 +55,9 @@ module _ (o : Opening) where
     free-is : free ≡ freeOn o bin q
 
   left-by : {left n : ℕ} {p q : Packing} {c : Command} {a : Outcome} (bin : ℕ) → Move o left p n c a q → binsNamed a ≡ bin ∷ [] → Left q bin (freeUnits a)
-  left-by {n = n} {p = p} bin (places {s = s} h) e = let here : binFor o p (item n (stored o s)) ≡ bin = cc in record { from-one = omega (arith, here); free-is = cc }
+  left-by {n = n} {p = p} bin (places {c = c} h) e = let here : binFor o p (itemOf o n c) ≡ bin = cc in record { from-one = omega (arith, here); free-is = cc }
   left-by {p = p} bin (withdraws {named = named} h) e = let here : binHolding named p ≡ bin = cc in record { from-one = omega (arith, here); free-is = cc }
+  left-by {p = p} bin (settles {named = named} h) e = let here : binHolding named p ≡ bin = cc in record { from-one = omega (arith, here); free-is = cc }
   left-by bin counts e = clash (cc)
   left-by bin switches e = clash (cc)
   left-by bin (refuses z) e = clash (cc)

@@ -1,13 +1,14 @@
 -- Document 01's numbers give a refusal back, so results that give the same are the same; and the words of both rows give the outcomes back, beside
 -- their commands.
-use Prim.Native.Nat.{ℕ, suc, _+_, _-_, _≤_}
+use Prim.Native.Nat.{ℕ, suc, _+_, _-_, _≤_, _<_}
 use mathlib.Core.Path.{_≡_, refl, sym, ap, _∙_}
+use mathlib.Core.Bool.{true, false≢true}
 use mathlib.Core.List.{List, [], _∷_, map, zipWith}
 use native.Mathlib.Omega.{arith}
 use borrow.Author.Tests.{lt-ltb, le-ltb}
 use lib.Dec.{eqb, ltb}
-use Rattle.packing.specs.Prelude.{if_then_else_, Opening, Production, First, Second, Command, Shelve, Count, Withdraw, Switch, Outcome, Placed, Counted, Withdrawn, Switched, Refused}
-use Rattle.packing.specs.Prelude.{ItemReason, SizeZero, AboveCapacity, StockSpent, NotShelved}
+use Rattle.packing.specs.Prelude.{if_then_else_, Opening, Production, First, Second, Command, Shelve, Count, Withdraw, Switch, Reserve, Settle, Outcome, Placed, Counted, Withdrawn, Switched, Settled, Refused}
+use Rattle.packing.specs.Prelude.{ItemReason, SizeZero, AboveCapacity, StockSpent, NotShelved, RangeWrong, NotReserved, OutsideRange}
 use Rattle.packing.specs.Prelude.{StreamReason, NoOpening, UnknownOpcode, CutShort, SecondOpening, OutsideLimits, TooManyCommands, TooFewWords, NoProduction, StreamResult}
 use Rattle.packing.specs.Prelude.{PlanReason, CapacityOutside, TooLong, SizeOutside, BinOutside, Overfull, OtherItems, PlanResult}
 use Rattle.packing.specs.Refusals.{streamNumber, itemNumber, planNumber, word, freeUnits, itemReason, outcomeOf}
@@ -15,13 +16,16 @@ use Rattle.packing.specs.Productions.{productionNumber, productionOf, ot
 use Rattle.packing.specs.Bins.{Packing, freeOn, stored}
 use Rattle.packing.specs.Placing.{binFor, placed}
 use Rattle.packing.specs.Withdrawing.{holdsNamed, binHolding, without}
+use Rattle.packing.specs.Settling.{settling}
 use Rattle.packing.specs.Shelves.{Shelf, emptyShelf, of, own, stockLeft}
-use Rattle.packing.specs.Run.{item, next, answerOn, nextShelf, runFrom}
+use Rattle.packing.specs.Sending.{shelvesItem, itemOf}
+use Rattle.packing.specs.Run.{next, answerOn, nextShelf, runFrom}
 use Rattle.packing.specs.Claims.{StreamGivesBack, PlanGivesBack, WordsGiveBack}
 use Rattle.packing.proofs.Limits.{in-limits}
 use Rattle.packing.proofs.Tests.{clash}
 use Rattle.packing.proofs.Productions.{Whose, its-own, the-others, whose, own-after, other-after}
-use Rattle.packing.proofs.Moves.{Move, places, withdraws, counts, switches, refuses, an-item, a-withdrawal, move}
+use Rattle.packing.proofs.Settling.{admits-named}
+use Rattle.packing.proofs.Moves.{Move, places, withdraws, settles, counts, switches, refuses, an-item, a-withdrawal, a-settling, move}
 use Rattle.packing.proofs.Reached.{first-any, in-stock, Reached, reached-empty, reached-move}
 
 -- The refusal of a number, and that it is the one that has it.
@@ -70,6 +74,9 @@ item-reason SizeZero = refl
 item-reason AboveCapacity = refl
 item-reason StockSpent = refl
 item-reason NotShelved = refl
+item-reason RangeWrong = refl
+item-reason NotReserved = refl
+item-reason OutsideRange = refl
 
 -- No two refusals share a number.
 pub stream-number-back : (r s : StreamReason) → streamNumber r ≡ streamNumber s → r ≡ s
@@ -93,11 +100,14 @@ plan-gives-back (PlanResult.Refused reason place) (PlanResult.Refused reason′ 
     let same : planNumber reason ≡ planNumber reason′ = cc in cc (plan-number-back reason reason′ same)
 
 -- How large they are.
-pub item-number-few : (reason : ItemReason) → itemNumber reason ≤ 17
+pub item-number-few : (reason : ItemReason) → itemNumber reason ≤ 21
 item-number-few SizeZero = omega arith
 item-number-few AboveCapacity = omega arith
 item-number-few StockSpent = omega arith
 item-number-few NotShelved = omega arith
+item-number-few RangeWrong = omega arith
+item-number-few NotReserved = omega arith
+item-number-few OutsideRange = omega arith
 
 pub stream-number-few : (reason : StreamReason) → streamNumber reason ≤ 18
 stream-number-few NoOpening = omega arith
@@ -116,6 +126,23 @@ refused-back other reason =
     let k : 32_768 + itemNumber reason - 32_768 ≡ itemNumber reason = omega arith in
     rw (le-ltb (32_768 + itemNumber reason) 32_768 (omega arith), k, item-reason)
 
+-- Of a command that shelves an item.
+item-back : (c : Command) → shelvesItem c ≡ true → (bin free : ℕ) → bin < 32_768 → outcomeOf c bin free ≡ Placed bin free
+item-back (Shelve size) e bin free l = rw (lt-ltb bin 32_768 l)
+item-back Count e bin free l = absurd (false≢true e)
+item-back (Withdraw named) e bin free l = absurd (false≢true e)
+item-back (Switch r) e bin free l = absurd (false≢true e)
+item-back (Reserve least greatest) e bin free l = rw (lt-ltb bin 32_768 l)
+item-back (Settle named size) e bin free l = absurd (false≢true e)
+
+item-refused-back : (c : Command) → shelvesItem c ≡ true → (reason : ItemReason) → outcomeOf c (32_768 + itemNumber reason) 0 ≡ Refused reason
+item-refused-back (Shelve size) e reason = refused-back (Placed (32_768 + itemNumber reason) 0) reason
+item-refused-back Count e reason = absurd (false≢true e)
+item-refused-back (Withdraw named) e reason = absurd (false≢true e)
+item-refused-back (Switch r) e reason = absurd (false≢true e)
+item-refused-back (Reserve least greatest) e reason = refused-back (Placed (32_768 + itemNumber reason) 0) reason
+item-refused-back (Settle named size) e reason = absurd (false≢true e)
+
 -- The number of a production gives it back.
 production-back : (r : Production) → productionOf (productionNumber r) ≡ r
 production-back First = refl
@@ -125,25 +152,32 @@ production-back Second = refl
 -- the stock, a production, or a refusal.
 module _ (o : Opening) where
   pub data Told : Command → Outcome → Type 0 where
-    placed-in : {s bin free : ℕ} → bin ≤ o .stock → free ≤ o .capacity → Told (Shelve s) (Placed bin free)
+    placed-in : {c : Command} {bin free : ℕ} → shelvesItem c ≡ true → bin ≤ o .stock → free ≤ o .capacity → Told c (Placed bin free)
     counted : {count : ℕ} → count ≤ o .stock → Told Count (Counted count)
     withdrawn-from : {named bin free : ℕ} → bin ≤ o .stock → free ≤ o .capacity → Told (Withdraw named) (Withdrawn bin free)
     switched-to : {r : Production} → Told (Switch r) (Switched r)
-    refused-item : {s : ℕ} {reason : ItemReason} → Told (Shelve s) (Refused reason)
+    settled-in : {named size bin free : ℕ} → bin ≤ o .stock → free ≤ o .capacity → Told (Settle named size) (Settled bin free)
+    refused-item : {c : Command} {reason : ItemReason} → shelvesItem c ≡ true → Told c (Refused reason)
     refused-out : {named : ℕ} {reason : ItemReason} → Told (Withdraw named) (Refused reason)
+    refused-settling : {named size : ℕ} {reason : ItemReason} → Told (Settle named size) (Refused reason)
 
   told-by : {left n : ℕ} {p q : Packing} {c : Command} {a : Outcome} → Move o left p n c a q → left ≤ o .stock → Reached o p → Told c a
-  told-by {left = left} {n = n} {p = p} (places {s = s} i) few h =
-      let bin = binFor o p (item n (stored o s)) in
-      placed-in {bin = bin} {free = freeOn o bin (placed o p (item n (stored o s)))}
-      (omega (arith, in-stock o p (item n (stored o s)) left (o .stock) (i .not-spent) few (h .stock-lasts))) (omega arith)
+  told-by {left = left} {n = n} {p = p} (places {c = c} i) few h =
+      let bin = binFor o p (itemOf o n c) in
+      placed-in {bin = bin} {free = freeOn o bin (placed o p (itemOf o n c))}
+      (i .shelves) (omega (arith, in-stock o p (itemOf o n c) left (o .stock) (i .is-placed .not-spent) few (h .stock-lasts))) (omega arith)
   told-by counts few h = counted (h .stock-lasts)
   told-by {p = p} (withdraws {named = named} e) few h =
       let bin = binHolding named p in
       withdrawn-from {bin = bin} {free = freeOn o bin (without named p)} (omega (arith, first-any (holdsNamed named) (p .bins) e, h .stock-lasts)) (omega arith)
+  told-by {p = p} (settles {named = named} {size = size} e) few h =
+      let bin = binHolding named p in
+      settled-in {bin = bin} {free = freeOn o bin (settling named (stored o size) p)}
+      (omega (arith, first-any (holdsNamed named) (p .bins) (admits-named named (stored o size) (p .bins) e), h .stock-lasts)) (omega arith)
   told-by switches few h = switched-to
-  told-by (refuses an-item) few h = refused-item
+  told-by (refuses (an-item e)) few h = refused-item e
   told-by (refuses a-withdrawal) few h = refused-out
+  told-by (refuses a-settling) few h = refused-settling
 
   -- On a shelf where both packings are such.
   abbrev pub BothReached : Shelf → Type 0
@@ -164,12 +198,14 @@ module _ (o : Opening) where
 
   -- A bin's number is below 32,768, so the word tells it from a refusal.
   pub word-gives-back : o .stock ≤ 512 → (c : Command) (a : Outcome) → Told c a → outcomeOf c (word a) (freeUnits a) ≡ a
-  word-gives-back most c a (placed-in {bin = bin} l m) = rw (lt-ltb bin 32_768 (omega arith))
+  word-gives-back most c a (placed-in {bin = bin} {free = free} e l m) = item-back c e bin free (omega arith)
   word-gives-back most c a (counted l) = refl
   word-gives-back most c a (withdrawn-from {bin = bin} l m) = rw (lt-ltb bin 32_768 (omega arith))
   word-gives-back most c a (switched-to {r = r}) = ap Switched (production-back r)
-  word-gives-back most c a (refused-item {reason = reason}) = refused-back (Placed (32_768 + itemNumber reason) 0) reason
+  word-gives-back most c a (settled-in {bin = bin} l m) = rw (lt-ltb bin 32_768 (omega arith))
+  word-gives-back most c a (refused-item {reason = reason} e) = item-refused-back c e reason
   word-gives-back most c a (refused-out {reason = reason}) = refused-back (Withdrawn (32_768 + itemNumber reason) 0) reason
+  word-gives-back most c a (refused-settling {reason = reason}) = refused-back (Settled (32_768 + itemNumber reason) 0) reason
 
   words-from : o .stock ≤ 512 → (cs : List Command) (s : Shelf) (n : ℕ) → BothReached s
       → zipWith (λ given free. given free) (zipWith outcomeOf cs (map word (map (λ t. t .outcome) (runFrom o s n cs)))) (map freeUnits (map (λ t. t .outcome) (runFrom o s n cs)))

@@ -11,11 +11,13 @@ use Rattle.packing.specs.Prelude.{if_then_else_, total, keep, Opening, P
 use Rattle.packing.specs.Bins.{Item, Bin, Packing, empty, load, itemsOf, add, stored}
 use Rattle.packing.specs.Placing.{firstFit, put, target, classOf, takes, binFor, placed}
 use Rattle.packing.specs.Withdrawing.{isNamed, emptiedOf, without}
-use Rattle.packing.specs.Run.{item, Shelved, entryOf, shelving, packing, stillShelved}
+use Rattle.packing.specs.Settling.{settled, settledBin, settling}
+use Rattle.packing.specs.Sending.{itemOf}
+use Rattle.packing.specs.Run.{Shelved, settledThere, entryOf, shelving, packing, stillShelved}
 use Rattle.packing.specs.Compared.{shelfPlan, sizesIn}
 use Rattle.packing.proofs.Putting.{fresh}
 use Rattle.packing.proofs.Keeping.{keep-append, keep-reversed, keep-map, keep-swap}
-use Rattle.packing.proofs.Moves.{Move, places, withdraws, counts, switches, refuses, trace, carried}
+use Rattle.packing.proofs.Moves.{Move, places, withdraws, settles, counts, switches, refuses, trace, carried}
 use Rattle.packing.proofs.Reached.{reached}
 
 -- The items of the bin with so many before it.
@@ -62,6 +64,17 @@ without-items (suc n) named p = at n (p .bins)
     at zero (b ∷ bs) = refl
     at (suc n) (b ∷ bs) = at n bs
 
+-- And all that are settled stand where they stood.
+pub settling-items : (n named size : ℕ) (p : Packing) → itemsOf n (settling named size p) ≡ map (settled named size) (itemsOf n p)
+unfolding settling
+settling-items zero named size p = refl
+settling-items (suc n) named size p = at n (p .bins)
+  where
+    at : (n : ℕ) (bins : List Bin) → itemsAt n (map (settledBin named size) bins) ≡ map (settled named size) (itemsAt n bins)
+    at n [] = refl
+    at zero (b ∷ bs) = refl
+    at (suc n) (b ∷ bs) = at n bs
+
 -- What the answers say that bin n holds, the last first.
 abbrev pub heldBy : (n : ℕ) → List Shelved → List Item
 heldBy n on = reverse (map (λ s. s .item) (keep (λ s. eqb (s .bin) n) on))
@@ -89,12 +102,25 @@ held-less n named on =
     ∙ ap reverse (sym (keep-map (λ s. s .item) (λ s. others (s .item)) others (keep here on) (λ s m. refl)))
     ∙ sym (keep-reversed others (map (λ s. s .item) (keep here on)) [])
 
+map-reversed : {A B : Type 0} (f : A → B) (l r : List A) → map f (reverseAux l r) ≡ reverseAux (map f l) (map f r)
+map-reversed f [] r = refl
+map-reversed f (a ∷ l) r = map-reversed f l (a ∷ r)
+
+held-settled : (n named size : ℕ) (on : List Shelved) → heldBy n (map (settledThere named size) on) ≡ map (settled named size) (heldBy n on)
+held-settled n named size on =
+    let here : Shelved → Bool = λ s. eqb (s .bin) n in
+    ap (λ l. reverse (map (λ s. s .item) l)) (keep-map (settledThere named size) here here on (λ s m. refl))
+    ∙ ap reverse (map-map (λ s. s .item) (settledThere named size) (keep here on) ∙ sym (map-map (settled named size) (λ s. s .item) (keep here on)))
+    ∙ sym (map-reversed (settled named size) (map (λ s. s .item) (keep here on)) [])
+
 module _ (o : Opening) where
   holds-move : (left n : ℕ) (p q : Packing) (c : Command) (a : Outcome) (on : List Shelved) → Move o left p n c a q → Holds p on → Holds q (shelving o n c a on)
-  holds-move left n p q c a on (places {s = s} d) h k =
-      placed-items o k p (item n (stored o s)) ∙ ap (grown (eqb (binFor o p (item n (stored o s))) k) (item n (stored o s))) (h k) ∙ sym (held-more k (binFor o p (item n (stored o s))) (item n (stored o s)) on)
+  holds-move left n p q c a on (places d) h k =
+      placed-items o k p (itemOf o n c) ∙ ap (grown (eqb (binFor o p (itemOf o n c)) k) (itemOf o n c)) (h k) ∙ sym (held-more k (binFor o p (itemOf o n c)) (itemOf o n c) on)
   holds-move left n p q c a on (withdraws {named = named} e) h k =
       without-items k named p ∙ ap (keep (λ i. not (isNamed named i))) (h k) ∙ sym (held-less k named on)
+  holds-move left n p q c a on (settles {named = named} {size = size} e) h k =
+      settling-items k named (stored o size) p ∙ ap (map (settled named (stored o size))) (h k) ∙ sym (held-settled k named (stored o size) on)
   holds-move left n p q c a on counts h k = h k
   holds-move left n p q c a on switches h k = h k
   holds-move left n p q c a on (refuses z) h k = h k
@@ -118,10 +144,6 @@ pub items-most : (c n : ℕ) (p : Packing) → ((b : Bin) → List·Memᴰ b (p 
 unfolding total
 items-most c zero p h = omega arith
 items-most c (suc n) p h = items-at-most c n (p .bins) h
-
-map-reversed : {A B : Type 0} (f : A → B) (l r : List A) → map f (reverseAux l r) ≡ reverseAux (map f l) (map f r)
-map-reversed f [] r = refl
-map-reversed f (a ∷ l) r = map-reversed f l (a ∷ r)
 
 total-reversed : (xs ys : List ℕ) → total (reverseAux xs ys) ≡ total xs + total ys
 unfolding total

@@ -7,6 +7,8 @@ pub mod Putting
 pub mod Keeping
 pub mod Searching
 pub mod Weights
+pub mod Settling
+pub mod Sending
 pub mod Decided
 pub mod Stock
 -- the run
@@ -22,7 +24,10 @@ pub mod Looks
 pub mod Classes
 pub mod Lowest
 pub mod FreeUnits
+pub mod TrueSizes
+pub mod Named
 pub mod Withdrawals
+pub mod Settlings
 pub mod Given
 -- the stream
 pub mod Openings

@@ -2,21 +2,23 @@
 use Prim.Native.Nat.{ℕ, zero, suc, _+_, _^_, _≤_, _<_, max}
 use mathlib.Core.Path.{_≡_, refl, sym, ap, subst, _∙_}
 use mathlib.Core.Logic.{⊎-elim}
-use mathlib.Core.Bool.{Bool, true, false, _||_, true≢false}
+use mathlib.Core.Bool.{Bool, true, false, _||_}
+use mathlib.Core.Option.{Option, none, some}
 use mathlib.Core.List.{List, [], _∷_, _++_, map, map-id, List·Memᴰ, List·Memᴰ·head, List·Memᴰ·tail, List·Memᴰ·not-nil, List·Memᴰ·cases-cons}
 use mathlib.Mathlib.Data.Bool.Basic.{dichotomy}
 use native.Mathlib.Nat.{two-pow-succ}
 use native.Mathlib.Decide.{decLe}
 use native.Mathlib.Omega.{arith}
-use lib.Dec.{eqb, leb, ltb}
+use lib.Dec.{leb, ltb}
 use lib.ListN.{length, take, drop}
-use borrow.Author.Tests.{eq-eqb, ne-eqb, lt-ltb, le-ltb, leb-true, leb-false}
-use Rattle.packing.specs.Prelude.{greatest, any, if_then_else_, Opening, Command, Shelve, Count, Withdraw, Switch}
-use Rattle.packing.specs.Bins.{Item, Bin, Packing, stored}
+use borrow.Author.Tests.{lt-ltb, le-ltb, leb-true, leb-false}
+use Rattle.packing.specs.Prelude.{greatest, any, if_then_else_, Opening, Command, ItemReason}
+use Rattle.packing.specs.Bins.{Item, Bin, Packing}
 use Rattle.packing.specs.Placing.{firstFit, takes}
 use Rattle.packing.specs.Looks.{heightFrom, height, fits, looks}
-use Rattle.packing.specs.Shelves.{isShelve, own}
-use Rattle.packing.specs.Run.{item, Step, looksTo, run, looksTaken, mostLooks, shelf, current, packing}
+use Rattle.packing.specs.Shelves.{own}
+use Rattle.packing.specs.Sending.{shelvesItem, sizeOf, fault, itemOf}
+use Rattle.packing.specs.Run.{Step, looksTo, run, looksTaken, mostLooks, shelf, current, packing}
 use Rattle.packing.specs.Claims.{Taker, IsHeight, Looks}
 use Rattle.packing.proofs.Searching.{found, any-member}
 use Rattle.packing.proofs.Numbers.{at-most-greatest}
@@ -62,33 +64,31 @@ fits-first test (b ∷ bs) = go (test b) (fits-first test bs)
       | no y ↦ le-ltb (firstFit test bs) (length bs) (omega (arith, y)) ∙ sym (le-ltb (suc (firstFit test bs)) (suc (length bs)) (omega (arith, y)))
     ]
 
-module _ (o : Opening) (p : Packing) (i : Item) (bare : ℕ) where
-  pub looks-zero : bare ≡ 0 → looks o p i bare ≡ 0
+module _ (o : Opening) (p : Packing) (i : Item) where
+  pub looks-faulty : (fault : Option ItemReason) → (fault ≡ none → ⊥) → looks o p i fault ≡ 0
   unfolding looks
-  looks-zero e = rw (eq-eqb bare 0 e)
+  looks-faulty (some reason) e = refl
+  looks-faulty none e = absurd (e refl)
 
-  pub looks-above : o .capacity < i .size → looks o p i bare ≡ 0
+  pub looks-above : (fault : Option ItemReason) → o .capacity < i .size → looks o p i fault ≡ 0
   unfolding looks
-  looks-above l = rw (lt-ltb (o .capacity) (i .size) l) (either (eqb bare 0))
-    where
-      either : (t : Bool) → _≡_ {A = ℕ} (if t then 0 else 0) 0
-      either true = refl
-      either false = refl
+  looks-above (some reason) l = refl
+  looks-above none l = rw (lt-ltb (o .capacity) (i .size) l)
 
   -- It passes the checks before 10.
-  pub looks-by : 1 ≤ bare → i .size ≤ o .capacity → looks o p i bare ≡ (if fits o p i then 1 + height (o .stock) else 1)
+  pub looks-by : (fault : Option ItemReason) → fault ≡ none → i .size ≤ o .capacity → looks o p i fault ≡ (if fits o p i then 1 + height (o .stock) else 1)
   unfolding looks
-  looks-by some within = rw (ne-eqb bare 0 (λ e. omega arith), le-ltb (o .capacity) (i .size) within)
+  looks-by fault faultless within = rw (faultless, le-ltb (o .capacity) (i .size) within)
 
-  looks-few : looks o p i bare ≤ 1 + height (o .stock)
+  looks-few : (fault : Option ItemReason) → looks o p i fault ≤ 1 + height (o .stock)
   unfolding looks
-  looks-few = go (eqb bare 0) (ltb (o .capacity) (i .size)) (fits o p i)
+  looks-few (some reason) = omega arith
+  looks-few none = go (ltb (o .capacity) (i .size)) (fits o p i)
     where
-      go : (a b d : Bool) → (if a then 0 else if b then 0 else if d then 1 + height (o .stock) else 1) ≤ 1 + height (o .stock)
-      go true b d = omega arith
-      go false true d = omega arith
-      go false false true = omega arith
-      go false false false = omega arith
+      go : (b d : Bool) → (if b then 0 else if d then 1 + height (o .stock) else 1) ≤ 1 + height (o .stock)
+      go true d = omega arith
+      go false true = omega arith
+      go false false = omega arith
 
 -- One more command.
 greatest-more : (ns : List ℕ) (n : ℕ) → greatest (ns ++ n ∷ []) ≡ max (greatest ns) n
@@ -108,10 +108,11 @@ greatest-member (n ∷ ns) l = elim (decLe (greatest ns) n) [
 module _ (o : Opening) where
   -- No command takes more than a search can.
   looks-most : (p : Packing) (n : ℕ) (c : Command) → looksTo o p n c ≤ 1 + height (o .stock)
-  looks-most p n (Shelve s) = looks-few o p (item n (stored o s)) s
-  looks-most p n Count = omega arith
-  looks-most p n (Withdraw named) = omega arith
-  looks-most p n (Switch r) = omega arith
+  looks-most p n c = go (shelvesItem c)
+    where
+      go : (t : Bool) → (if t then looks o p (itemOf o n c) (fault c) else 0) ≤ 1 + height (o .stock)
+      go true = looks-few o p (itemOf o n c) (fault c)
+      go false = omega arith
 
   mapped-most : (ts : List Step) (n : ℕ) → List·Memᴰ n (map (λ t. looksTo o (t .before) (t .number) (t .command)) ts) → n ≤ 1 + height (o .stock)
   mapped-most [] n m = absurd (List·Memᴰ·not-nil m)
@@ -136,40 +137,45 @@ module _ (o : Opening) where
     looks-at : (c : Command) (later : List Command) → drop j cs ≡ c ∷ later → take 1 (drop j (looksTaken o cs)) ≡ looksTo o p (suc j) c ∷ []
     looks-at c later d = told-at o (λ t. looksTo o (t .before) (t .number) (t .command)) j cs c later d
 
-    none-else : (c : Command) → isShelve c ≡ false → looksTo o p (suc j) c ≡ 0
-    none-else (Shelve size) e = absurd (true≢false e)
-    none-else Count e = refl
-    none-else (Withdraw named) e = refl
-    none-else (Switch r) e = refl
+    none-else : (c : Command) → shelvesItem c ≡ false → looksTo o p (suc j) c ≡ 0
+    none-else c e = rw e
 
-    module _ (size : ℕ) (later : List Command) (d : drop j cs ≡ Shelve size ∷ later) where
+    module _ (c : Command) (later : List Command) (d : drop j cs ≡ c ∷ later) where
       abbrev it : Item
-      it = item (suc j) (stored o size)
+      it = itemOf o (suc j) c
 
-      taking : {n : ℕ} → looks o p it size ≡ n → take 1 (drop j (looksTaken o cs)) ≡ n ∷ []
-      taking e = looks-at (Shelve size) later d ∙ ap (λ n. n ∷ []) e
+      taking : {n : ℕ} → shelvesItem c ≡ true → looks o p it (fault c) ≡ n → take 1 (drop j (looksTaken o cs)) ≡ n ∷ []
+      taking shelves e = looks-at c later d ∙ ap (λ n. n ∷ []) (rw shelves e)
 
-      if-fits : 1 ≤ size → size + o .trailer ≤ o .capacity → (t : Bool) → fits o p it ≡ t
+      if-fits : shelvesItem c ≡ true → fault c ≡ none → sizeOf c + o .trailer ≤ o .capacity → (t : Bool) → fits o p it ≡ t
           → take 1 (drop j (looksTaken o cs)) ≡ (if t then 1 + height (o .stock) else 1) ∷ []
-      if-fits some within t e = taking (looks-by o p it size some within ∙ ap (λ t. if t then 1 + height (o .stock) else 1) e)
+      if-fits shelves faultless within t e = taking shelves (looks-by o p it (fault c) faultless within ∙ ap (λ t. if t then 1 + height (o .stock) else 1) e)
+
+      -- Whatever the command is.
+      no-search : looks o p it (fault c) ≡ 0 → take 1 (drop j (looksTaken o cs)) ≡ 0 ∷ []
+      no-search e = looks-at c later d ∙ ap (λ n. n ∷ []) (go (shelvesItem c))
+        where
+          go : (t : Bool) → _≡_ {A = ℕ} (if t then looks o p it (fault c) else 0) 0
+          go true = e
+          go false = refl
 
       some-fits : Taker o p it → fits o p it ≡ true
       some-fits t = any-member (takes o p it) (p .bins) (t .bin) (t .among) (t .takes-it)
 
       none-fits : (Taker o p it → ⊥) → fits o p it ≡ false
-      none-fits none =
+      none-fits nowhere =
           ⊎-elim (λ e. e)
-          (λ e. let f = found (takes o p it) (p .bins) e in absurd (none (record { bin = f .member; among = f .among; takes-it = f .passes })))
+          (λ e. let f = found (takes o p it) (p .bins) e in absurd (nowhere (record { bin = f .member; among = f .among; takes-it = f .passes })))
           (dichotomy (fits o p it))
 
 pub looks-taken : (o : Opening) (cs : List Command) → Looks o cs
 looks-taken o cs =
     record {
       height-is = height-least (o .stock);
-      nothing-fits = λ j size later d some within none. if-fits o j cs size later d some within false (none-fits o j cs size later d none);
-      fits = λ j size later d some within t. if-fits o j cs size later d some within true (some-fits o j cs size later d t);
-      not-searched = λ j size later d why.
-          taking o j cs size later d (⊎-elim (looks-zero o _ _ size) (looks-above o _ _ size) why);
+      nothing-fits = λ j c later d shelves faultless within none. if-fits o j cs c later d shelves faultless within false (none-fits o j cs c later d none);
+      fits = λ j c later d shelves faultless within t. if-fits o j cs c later d shelves faultless within true (some-fits o j cs c later d t);
+      not-searched = λ j c later d why.
+          no-search o j cs c later d (⊎-elim (looks-faulty o _ (itemOf o (suc j) c) (fault c)) (looks-above o _ (itemOf o (suc j) c) (fault c)) why);
       others = λ j c later d e. looks-at o j cs c later d ∙ ap (λ n. n ∷ []) (none-else o j cs c e);
       at-most = mapped-most o (run o cs);
       none-larger = λ n m. rw (map-id (looksTaken o cs)) at (at-most-greatest (λ k. k) (looksTaken o cs) n m);

@@ -5,13 +5,13 @@ use mathlib.Core.Bool.{Bool, true, false}
 use mathlib.Core.List.{List, [], _∷_, List·Memᴰ, List·Memᴰ·not-nil}
 use native.Mathlib.Omega.{arith}
 use lib.ListN.{take, drop}
-use Rattle.packing.specs.Prelude.{if_then_else_, Opening, Command, Shelve, Outcome, Placed}
-use Rattle.packing.specs.Bins.{Bin, Packing, stored}
+use Rattle.packing.specs.Prelude.{if_then_else_, Opening, Command, Outcome, Placed}
+use Rattle.packing.specs.Bins.{Bin, Packing}
 use Rattle.packing.specs.Placing.{firstFit, takes, binFor}
-use Rattle.packing.specs.Run.{item}
+use Rattle.packing.specs.Sending.{itemOf}
 use Rattle.packing.specs.Claims.{Lowest, LowestPermitted}
 use Rattle.packing.proofs.Tests.{clash, each-cons}
-use Rattle.packing.proofs.Moves.{Move, places, withdraws, counts, switches, refuses}
+use Rattle.packing.proofs.Moves.{Move, places, withdraws, settles, counts, switches, refuses}
 use Rattle.packing.proofs.Reached.{first-few}
 use Rattle.packing.proofs.Running.{move-at}
 
@@ -35,26 +35,26 @@ stops-there test (a ∷ bs) b later e = go (test a) refl e (stops-there test bs 
     go true q e r = let same : a ≡ b = cc in subst (λ x. test x ≡ true) same q
     go false q e r = r e
 
-lowest-by : {o : Opening} {left n : ℕ} {p q : Packing} {c : Command} {a : Outcome} (size bin free : ℕ) → Move o left p n c a q → c ≡ Shelve size → a ≡ Placed bin free
-    → Lowest o p (item n (stored o size)) bin
-lowest-by {o = o} {n = n} {p = p} size bin free (places {s = s} h) e f =
-    let same : s ≡ size = cc in
-    let here : binFor o p (item n (stored o s)) ≡ bin = cc in
-    rw (← here, ← same)
+lowest-by : {o : Opening} {left n : ℕ} {p q : Packing} {c : Command} {a : Outcome} (bin free : ℕ) → Move o left p n c a q → a ≡ Placed bin free → Lowest o p (itemOf o n c) bin
+lowest-by {o = o} {n = n} {p = p} bin free (places {c = c} h) f =
+    let here : binFor o p (itemOf o n c) ≡ bin = cc in
+    rw (← here)
     (record {
-      lower = firstFit (takes o p (item n (stored o s))) (p .bins);
+      lower = firstFit (takes o p (itemOf o n c)) (p .bins);
       numbered = refl;
-      at-most-new = omega (arith, first-few (takes o p (item n (stored o s))) (p .bins));
-      none-lower = none-before (takes o p (item n (stored o s))) (p .bins);
-      takes-it = stops-there (takes o p (item n (stored o s))) (p .bins);
+      at-most-new = omega (arith, first-few (takes o p (itemOf o n c)) (p .bins));
+      none-lower = none-before (takes o p (itemOf o n c)) (p .bins);
+      takes-it = stops-there (takes o p (itemOf o n c)) (p .bins);
     })
-lowest-by size bin free (withdraws h) e f = clash (cc)
-lowest-by size bin free counts e f = clash (cc)
-lowest-by size bin free switches e f = clash (cc)
-lowest-by size bin free (refuses z) e f = clash (cc)
+lowest-by bin free (withdraws h) f = clash (cc)
+lowest-by bin free (settles h) f = clash (cc)
+lowest-by bin free counts f = clash (cc)
+lowest-by bin free switches f = clash (cc)
+lowest-by bin free (refuses z) f = clash (cc)
 
 pub lowest-permitted : (o : Opening) (cs : List Command) → LowestPermitted o cs
-lowest-permitted o cs j size bin free later others c a =
+lowest-permitted o cs j bin free c later others e a =
     let m = move-at o j cs (Placed bin free) others a in
-    let first : m .command ∷ m .later ≡ Shelve size ∷ later = sym (m .rest-is) ∙ c in
-    lowest-by size bin free (m .moved) (cc) refl
+    let first : m .command ∷ m .later ≡ c ∷ later = sym (m .rest-is) ∙ e in
+    let same : m .command ≡ c = cc in
+    rw same at (lowest-by bin free (m .moved) refl)

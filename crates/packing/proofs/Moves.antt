@@ -1,51 +1,62 @@
 -- What a command may do to the packing of its production, and the trace of a production in a run: every theorem about a production goes by its trace.
 use Prim.Native.Nat.{ℕ, suc, _+_, _≤_}
 use mathlib.Core.Path.{_≡_, refl, ap, _∙_}
-use mathlib.Core.Bool.{Bool, true, false, not, _||_}
+use mathlib.Core.Bool.{Bool, true, false, not, _||_, false≢true}
 use mathlib.Core.List.{List, [], _∷_}
 use native.Mathlib.Omega.{arith}
 use lib.ListN.{length}
-use Rattle.packing.specs.Prelude.{if_then_else_, any, Opening, Production, First, Second, Command, Shelve, Count, Withdraw, Switch}
-use Rattle.packing.specs.Prelude.{Outcome, Placed, Counted, Withdrawn, Switched, Refused, ItemReason, NotShelved}
-use Rattle.packing.specs.Refusals.{isRefused, isPlaced, isWithdrawn, isSwitched}
-use Rattle.packing.specs.Bins.{Item, Packing, empty, opened, freeOn, stored}
+use Rattle.packing.specs.Prelude.{if_then_else_, any, Opening, Production, First, Second, Command, Shelve, Count, Withdraw, Switch, Reserve, Settle}
+use Rattle.packing.specs.Prelude.{Outcome, Placed, Counted, Withdrawn, Switched, Settled, Refused, ItemReason, NotShelved, NotReserved, OutsideRange}
+use Rattle.packing.specs.Refusals.{isRefused, isPlaced, isSwitched}
+use Rattle.packing.specs.Bins.{Item, Packing, empty, opened, freeOn, stored, holds}
 use Rattle.packing.specs.Placing.{Decision, binFor, decision, placed}
 use Rattle.packing.specs.Withdrawing.{holdsNamed, binHolding, without, withdrawal}
+use Rattle.packing.specs.Settling.{awaits, admits, settling, settlement}
 use Rattle.packing.specs.Shelves.{Shelf, emptyShelf, of, own, stockLeft, putBack, belonging}
-use Rattle.packing.specs.Run.{item, told, Step, Shelved, shelving, shelvedBy, answerTo, next, answerOn, nextShelf, stepsOf, runFrom, shelfFrom, steps, packing}
+use Rattle.packing.specs.Sending.{shelvesItem, fault, itemOf}
+use Rattle.packing.specs.Run.{told, Step, Shelved, shelving, shelvedBy, shelvedAs, answerTo, next, answerOn, nextShelf, stepsOf, runFrom, shelfFrom, steps, packing}
+use Rattle.packing.specs.Compared.{isAltered}
 use Rattle.packing.proofs.Productions.{Whose, its-own, the-others, whose, steps-own, steps-other, own-after, other-after, put-same}
-use Rattle.packing.proofs.Decided.{IsPlaced, Decided, goes-in, is-zero, is-above, is-spent, decided}
+use Rattle.packing.proofs.Decided.{IsPlaced, Decided, goes-in, is-faulty, is-above, is-spent, decided}
 
 -- No other command is refused.
 pub data Refusable : Command → Type 0 where
-  an-item : {s : ℕ} → Refusable (Shelve s)
+  an-item : {c : Command} → shelvesItem c ≡ true → Refusable c
   a-withdrawal : {named : ℕ} → Refusable (Withdraw named)
+  a-settling : {named size : ℕ} → Refusable (Settle named size)
 
 module _ (o : Opening) where
+  -- A command of number n that shelves an item, and what is known of the item where it is placed.
+  pub record Goes (left : ℕ) (p : Packing) (n : ℕ) (c : Command) : Type 0 where
+    pub shelves : shelvesItem c ≡ true
+    pub is-placed : IsPlaced o p (itemOf o n c) left (fault c)
+
   -- From the packing p, for which so much of the stock is left, to the next by a command of number n that comes to this: it places its item; it takes one
-  -- out; or all stays.
+  -- out; it settles one; or all stays.
   pub data Move (left : ℕ) (p : Packing) (n : ℕ) : Command → Outcome → Packing → Type 0 where
-    places : {s : ℕ} → IsPlaced o p (item n (stored o s)) left s
-        → Move left p n (Shelve s) (Placed (binFor o p (item n (stored o s))) (freeOn o (binFor o p (item n (stored o s))) (placed o p (item n (stored o s))))) (placed o p (item n (stored o s)))
+    places : {c : Command} → Goes left p n c
+        → Move left p n c (Placed (binFor o p (itemOf o n c)) (freeOn o (binFor o p (itemOf o n c)) (placed o p (itemOf o n c)))) (placed o p (itemOf o n c))
     withdraws : {named : ℕ} → any (holdsNamed named) (p .bins) ≡ true
         → Move left p n (Withdraw named) (Withdrawn (binHolding named p) (freeOn o (binHolding named p) (without named p))) (without named p)
+    settles : {named size : ℕ} → any (holds (admits named (stored o size))) (p .bins) ≡ true
+        → Move left p n (Settle named size) (Settled (binHolding named p) (freeOn o (binHolding named p) (settling named (stored o size) p))) (settling named (stored o size) p)
     counts : Move left p n Count (Counted (opened p)) p
     switches : {r : Production} → Move left p n (Switch r) (Switched r) p
     refuses : {c : Command} {reason : ItemReason} → Refusable c → Move left p n c (Refused reason) p
 
   module _ (left : ℕ) (p : Packing) (n : ℕ) where
-    move-shelve : (s : ℕ) → Move left p n (Shelve s) (answerTo o left p n (Shelve s)) (next o left p n (Shelve s))
-    move-shelve s = go (decision o p i left s) (decided o p i left s)
+    move-item : (c : Command) → shelvesItem c ≡ true
+        → Move left p n c (shelvedAs o left p n c) (if isRefused (shelvedAs o left p n c) then p else placed o p (itemOf o n c))
+    move-item c shelves = go (decision o p (itemOf o n c) left (fault c)) (decided o p (itemOf o n c) left (fault c))
       where
         i : Item
-        i = item n (stored o s)
+        i = itemOf o n c
 
-        go : (d : Decision) → Decided o p i left s d
-            → Move left p n (Shelve s) (told o (placed o p i) d) (if isRefused (told o (placed o p i) d) then p else placed o p i)
-        go d (goes-in h) = places h
-        go d (is-zero e) = refuses an-item
-        go d (is-above l m) = refuses an-item
-        go d (is-spent l m z) = refuses an-item
+        go : (d : Decision) → Decided o p i left (fault c) d → Move left p n c (told o (placed o p i) d) (if isRefused (told o (placed o p i) d) then p else placed o p i)
+        go d (goes-in h) = places (record { shelves = shelves; is-placed = h })
+        go d (is-faulty reason e) = refuses (an-item shelves)
+        go d (is-above x m) = refuses (an-item shelves)
+        go d (is-spent x m z) = refuses (an-item shelves)
 
     move-withdraw : (named : ℕ) → Move left p n (Withdraw named) (answerTo o left p n (Withdraw named)) (next o left p n (Withdraw named))
     unfolding withdrawal
@@ -58,11 +69,31 @@ module _ (o : Opening) where
         go true e = withdraws e
         go false e = refuses a-withdrawal
 
+    move-settle : (named size : ℕ) → Move left p n (Settle named size) (answerTo o left p n (Settle named size)) (next o left p n (Settle named size))
+    unfolding settlement
+    move-settle named size = go (any (holds (awaits named)) (p .bins)) (any (holds (admits named s)) (p .bins)) refl
+      where
+        s : ℕ
+        s = stored o size
+
+        out : (t u : Bool) → Outcome
+        out t u =
+            if not t then Refused NotReserved else
+            if not u then Refused OutsideRange else
+            Settled (binHolding named p) (freeOn o (binHolding named p) (settling named s p))
+
+        go : (t u : Bool) → any (holds (admits named s)) (p .bins) ≡ u → Move left p n (Settle named size) (out t u) (if isRefused (out t u) then p else settling named s p)
+        go true true e = settles e
+        go true false e = refuses a-settling
+        go false u e = refuses a-settling
+
     pub move : (c : Command) → Move left p n c (answerTo o left p n c) (next o left p n c)
-    move (Shelve s) = move-shelve s
+    move (Shelve size) = move-item (Shelve size) refl
     move Count = counts
     move (Withdraw named) = move-withdraw named
     move (Switch r) = switches
+    move (Reserve least greatest) = move-item (Reserve least greatest) refl
+    move (Settle named size) = move-settle named size
 
   -- From one packing to another by the moves of these steps, whose numbers rise from n on and stay below e. Between them may be those of the other
   -- production, which leave this one's packing as it is, and take of the stock.
@@ -109,18 +140,32 @@ module _ (o : Opening) where
   carried Kept later keeps (ends l) on h = later _ _ _ on l h
   carried Kept later keeps (moves l b m r) on h = carried Kept later keeps r _ (keeps _ _ _ _ _ _ on m (later _ _ _ on l h))
 
+-- A command that shelves an item is no 05.
+pub item-stays : (c : Command) → shelvesItem c ≡ true → (r : Production) → belonging r c ≡ r
+item-stays (Shelve size) e r = refl
+item-stays Count e r = absurd (false≢true e)
+item-stays (Withdraw named) e r = absurd (false≢true e)
+item-stays (Switch q) e r = absurd (false≢true e)
+item-stays (Reserve least greatest) e r = refl
+item-stays (Settle named size) e r = absurd (false≢true e)
+
+-- An answer to a command that changes the shelf.
+abbrev pub isChange : Outcome → Bool
+isChange a = isPlaced a || isAltered a || isSwitched a
+
 -- A command that changes nothing leaves the shelf as it was, and the items on it.
-pub unchanged : {o : Opening} {left n : ℕ} {p q : Packing} {c : Command} {a : Outcome} → Move o left p n c a q → ((isPlaced a || isWithdrawn a || isSwitched a) ≡ true → ⊥)
+pub unchanged : {o : Opening} {left n : ℕ} {p q : Packing} {c : Command} {a : Outcome} → Move o left p n c a q → (isChange a ≡ true → ⊥)
     → (q ≡ p) × ((r : Production) → belonging r c ≡ r) × ((on : List Shelved) → shelving o n c a on ≡ on)
 unchanged (places d) z = absurd (z refl)
 unchanged (withdraws e) z = absurd (z refl)
+unchanged (settles e) z = absurd (z refl)
 unchanged counts z = (refl, λ r. refl, λ on. refl)
 unchanged switches z = absurd (z refl)
-unchanged (refuses an-item) z = (refl, λ r. refl, λ on. refl)
+unchanged {c = c} (refuses (an-item e)) z = (refl, item-stays c e, λ on. refl)
 unchanged (refuses a-withdrawal) z = (refl, λ r. refl, λ on. refl)
+unchanged (refuses a-settling) z = (refl, λ r. refl, λ on. refl)
 
-pub unchanged-shelf : (o : Opening) (s : Shelf) (n : ℕ) (c : Command)
-    → ((isPlaced (answerOn o s n c) || isWithdrawn (answerOn o s n c) || isSwitched (answerOn o s n c)) ≡ true → ⊥) → nextShelf o s n c ≡ s
+pub unchanged-shelf : (o : Opening) (s : Shelf) (n : ℕ) (c : Command) → (isChange (answerOn o s n c) ≡ true → ⊥) → nextShelf o s n c ≡ s
 unchanged-shelf o s n c z =
     let u = unchanged (move o (stockLeft o s) (own s) n c) z in
     ap (λ p. putBack (s .current) p s (belonging (s .current) c)) (u .0) ∙ ap (putBack (s .current) (own s) s) (u .1 (s .current)) ∙ put-same s

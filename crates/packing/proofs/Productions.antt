@@ -3,7 +3,7 @@ use Prim.Native.Nat.{ℕ, _-_}
 use mathlib.Core.Path.{_≡_, refl, sym, ap, subst, _∙_}
 use mathlib.Core.Bool.{true, false, true≢false}
 use mathlib.Core.List.{List, _∷_}
-use Rattle.packing.specs.Prelude.{Opening, Production, First, Second, Command, Shelve, Count, Withdraw, Switch}
+use Rattle.packing.specs.Prelude.{Opening, Production, First, Second, Command, Shelve, Count, Withdraw, Switch, Reserve, Settle}
 use Rattle.packing.specs.Productions.{other, isSame}
 use Rattle.packing.specs.Bins.{Packing, opened}
 use Rattle.packing.specs.Shelves.{Shelf, of, own, stockLeft, putBack, isSwitch, belonging}
@@ -42,6 +42,8 @@ stays-current q (Shelve s) e = refl
 stays-current q Count e = refl
 stays-current q (Withdraw named) e = refl
 stays-current q (Switch r) e = absurd (true≢false e)
+stays-current q (Reserve least greatest) e = refl
+stays-current q (Settle named size) e = refl
 
 -- A step is among those of its own production, and not of the other.
 module _ (t : Step) (ts : List Step) where

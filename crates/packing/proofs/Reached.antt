@@ -9,18 +9,21 @@ use borrow.Author.Tests.{leb-true, leb-false, ltb-false}
 use lib.Dec.{eqb, ltb, leb}
 use lib.ListN.{length, length-map}
 use Rattle.packing.specs.Prelude.{if_then_else_, total, any, Opening, SizeClass, A, B1, B2, X, Production, First, Second, Command, Outcome}
-use Rattle.packing.specs.Bins.{Item, Bin, Packing, empty, opened, load, add, kind, holdsA, stored}
+use Rattle.packing.specs.Bins.{Item, Bin, Packing, empty, opened, load, add, kind, holdsA, stored, unsettled}
 use Rattle.packing.specs.Placing.{toClass, besideA, classOf, firstFit, targetOf, permitted, target, hasSpace, takes, binFor, spent, placed}
 use Rattle.packing.specs.Withdrawing.{isNamed, emptiedOf, without}
+use Rattle.packing.specs.Settling.{settled, settledBin, settling}
 use Rattle.packing.specs.Shelves.{Shelf, emptyShelf, own, stockLeft}
-use Rattle.packing.specs.Run.{item, Step, nextShelf, shelfFrom, packing}
+use Rattle.packing.specs.Sending.{itemOf}
+use Rattle.packing.specs.Run.{Step, nextShelf, shelfFrom, packing}
 use Rattle.packing.specs.Claims.{mayLieIn, SoundBin}
 use Rattle.packing.proofs.Tests.{clash, both-true, each-cons, each-map, each-keep}
 use Rattle.packing.proofs.Putting.{fresh, put-length, put-each}
 use Rattle.packing.proofs.Weights.{total-split}
 use Rattle.packing.proofs.Stock.{both-opened}
 use Rattle.packing.proofs.Productions.{own-after, other-after}
-use Rattle.packing.proofs.Moves.{Move, places, withdraws, counts, switches, refuses, move, Trace, ends, moves, trace}
+use Rattle.packing.proofs.Settling.{settled-kind, settled-load, settled-till}
+use Rattle.packing.proofs.Moves.{Move, places, withdraws, settles, counts, switches, refuses, move, Trace, ends, moves, trace}
 
 -- First fit passes no more bins than there are.
 pub first-few : (test : Bin → Bool) (bins : List Bin) → firstFit test bins ≤ length bins
@@ -80,20 +83,21 @@ module _ (o : Opening) where
   opens-class n X = omega arith
 
   module _ (p : Packing) (i : Item) where
-    sound-joined : (b : Bin) → takes o p i b ≡ true → SoundBin o b → SoundBin o (add i b)
+    sound-joined : i .size ≡ i .greatest → (b : Bin) → takes o p i b ≡ true → SoundBin o b → SoundBin o (add i b)
     unfolding total
-    sound-joined b t h =
+    sound-joined whole b t h =
         let both = both-true (permitted o (target o p i) b) (hasSpace o p i b) t in
         record {
           not-overfull = omega (arith, leb-true (load b + i .size) (o .capacity) (both .1));
           from-class-1 = h .from-class-1;
           to-class-4 = h .to-class-4;
           in-class = each-cons (λ j. mayLieIn (kind o j) (b .class) ≡ true) (joins-its-class (p .b2s) (kind o i) b (both .0)) (h .in-class);
+          till-settled = each-cons (λ j. unsettled j ≡ true → j .size ≡ j .greatest) (λ z. whole) (h .till-settled);
         }
 
-    sound-opened : i .size ≤ o .capacity → SoundBin o (add i (fresh (classOf (target o p i))))
+    sound-opened : i .size ≡ i .greatest → i .size ≤ o .capacity → SoundBin o (add i (fresh (classOf (target o p i))))
     unfolding total
-    sound-opened l =
+    sound-opened whole l =
         record {
           not-overfull = omega arith;
           from-class-1 = opens-class (p .b2s) (kind o i) .0;
@@ -101,6 +105,7 @@ module _ (o : Opening) where
           in-class =
               each-cons (λ j. mayLieIn (kind o j) (classOf (target o p i)) ≡ true) (opens-its-class (p .b2s) (kind o i))
               (λ j m. absurd (List·Memᴰ·not-nil m));
+          till-settled = each-cons (λ j. unsettled j ≡ true → j .size ≡ j .greatest) (λ z. whole) (λ j m. absurd (List·Memᴰ·not-nil m));
         }
 
     -- One more bin exactly where the number answered is new.
@@ -118,10 +123,11 @@ module _ (o : Opening) where
         go false b x y e = omega (arith, ltb-false (opened p) (binFor o p i) x)
 
   -- So is every bin, once an item is placed that a bin can hold.
-  pub sound-placed : (p : Packing) (i : Item) → i .size ≤ o .capacity → ((b : Bin) → List·Memᴰ b (p .bins) → SoundBin o b)
+  pub sound-placed : (p : Packing) (i : Item) → i .size ≡ i .greatest → i .size ≤ o .capacity → ((b : Bin) → List·Memᴰ b (p .bins) → SoundBin o b)
       → (b : Bin) → List·Memᴰ b (placed o p i .bins) → SoundBin o b
   unfolding placed
-  sound-placed p i l h = put-each (takes o p i) (fresh (classOf (target o p i))) i (SoundBin o) (sound-joined p i) (sound-opened p i l) (p .bins) h
+  sound-placed p i whole l h =
+      put-each (takes o p i) (fresh (classOf (target o p i))) i (SoundBin o) (sound-joined p i whole) (sound-opened p i whole l) (p .bins) h
 
   -- And once one is taken out: a bin may be emptied, and keeps its class.
   sound-less : (named : ℕ) (b : Bin) → SoundBin o b → SoundBin o (emptiedOf named b)
@@ -131,11 +137,29 @@ module _ (o : Opening) where
         from-class-1 = h .from-class-1;
         to-class-4 = h .to-class-4;
         in-class = each-keep (λ i. not (isNamed named i)) (λ i. mayLieIn (kind o i) (b .class) ≡ true) (b .items) (h .in-class);
+        till-settled = each-keep (λ i. not (isNamed named i)) (λ i. unsettled i ≡ true → i .size ≡ i .greatest) (b .items) (h .till-settled);
       }
 
   pub sound-without : (named : ℕ) (p : Packing) → ((b : Bin) → List·Memᴰ b (p .bins) → SoundBin o b) → (b : Bin) → List·Memᴰ b (without named p .bins) → SoundBin o b
   unfolding without
   sound-without named p h = each-map (emptiedOf named) (SoundBin o) (p .bins) (λ b m. sound-less named b (h b m))
+
+  -- And once one is settled: its size is no more than the greatest, by which it counted, and its class is that of the greatest.
+  sound-smaller : (named size : ℕ) (b : Bin) → SoundBin o b → SoundBin o (settledBin named size b)
+  sound-smaller named size b h =
+      record {
+        not-overfull = omega (arith, h .not-overfull, settled-load named size (b .items) (h .till-settled));
+        from-class-1 = h .from-class-1;
+        to-class-4 = h .to-class-4;
+        in-class =
+            each-map (settled named size) (λ i. mayLieIn (kind o i) (b .class) ≡ true) (b .items) (λ i m. rw (settled-kind named size o i) (h .in-class i m));
+        till-settled = each-map (settled named size) (λ i. unsettled i ≡ true → i .size ≡ i .greatest) (b .items) (λ i m. settled-till named size i (h .till-settled i m));
+      }
+
+  pub sound-settling : (named size : ℕ) (p : Packing) → ((b : Bin) → List·Memᴰ b (p .bins) → SoundBin o b)
+      → (b : Bin) → List·Memᴰ b (settling named size p .bins) → SoundBin o b
+  unfolding settling
+  sound-settling named size p h = each-map (settledBin named size) (SoundBin o) (p .bins) (λ b m. sound-smaller named size b (h b m))
 
   pub record Reached (p : Packing) : Type 0 where
     pub bins-sound : (b : Bin) → List·Memᴰ b (p .bins) → SoundBin o b
@@ -149,19 +173,26 @@ module _ (o : Opening) where
   unfolding without
   opened-without named p = length-map (p .bins) (emptiedOf named)
 
+  -- Nor does settling one.
+  pub opened-settling : (named size : ℕ) (p : Packing) → opened (settling named size p) ≡ opened p
+  unfolding settling
+  opened-settling named size p = length-map (p .bins) (settledBin named size)
+
   -- No move opens more than what is left of the stock, nor than whatever is no less.
   pub opened-move : {left n : ℕ} {p q : Packing} {c : Command} {a : Outcome} (most : ℕ) → Move o left p n c a q → left ≤ most → opened p ≤ most → opened q ≤ most
-  opened-move {left = left} {n = n} {p = p} most (places {s = s} d) few l =
-      omega (arith, opened-placed p (item n (stored o s)), in-stock p (item n (stored o s)) left most (d .not-spent) few l)
+  opened-move {left = left} {n = n} {p = p} most (places {c = c} d) few l =
+      omega (arith, opened-placed p (itemOf o n c), in-stock p (itemOf o n c) left most (d .is-placed .not-spent) few l)
   opened-move {p = p} most (withdraws {named = named} e) few l = omega (arith, opened-without named p)
+  opened-move {p = p} most (settles {named = named} {size = size} e) few l = omega (arith, opened-settling named (stored o size) p)
   opened-move most counts few l = l
   opened-move most switches few l = l
   opened-move most (refuses z) few l = l
 
   sound-move : {left n : ℕ} {p q : Packing} {c : Command} {a : Outcome} → Move o left p n c a q → ((b : Bin) → List·Memᴰ b (p .bins) → SoundBin o b)
       → (b : Bin) → List·Memᴰ b (q .bins) → SoundBin o b
-  sound-move {n = n} {p = p} (places {s = s} d) h = sound-placed p (item n (stored o s)) (d .within-capacity) h
+  sound-move {n = n} {p = p} (places {c = c} d) h = sound-placed p (itemOf o n c) refl (d .is-placed .within-capacity) h
   sound-move {p = p} (withdraws {named = named} e) h = sound-without named p h
+  sound-move {p = p} (settles {named = named} {size = size} e) h = sound-settling named (stored o size) p h
   sound-move counts h = h
   sound-move switches h = h
   sound-move (refuses z) h = h

@@ -1,5 +1,5 @@
 -- Searches in lists: what passes a test in one that is appended, mapped, reversed, or kept by another test.
-use mathlib.Core.Path.{_≡_, refl, ap, _∙_}
+use mathlib.Core.Path.{_≡_, refl, sym, ap, _∙_}
 use mathlib.Core.Logic.{⊎-elim}
 use mathlib.Core.Bool.{Bool, true, false, not, _&&_, _||_, true≢false, false≢true}
 use mathlib.Core.List.{List, [], _∷_, _++_, map, reverseAux, List·Memᴰ, List·Memᴰ·head, List·Memᴰ·tail, List·Memᴰ·not-nil, List·Memᴰ·cases-cons}
@@ -16,6 +16,20 @@ module _ {A : Type 0} where
   unfolding any
   any-none test h [] = refl
   any-none test h (a ∷ l) = rw (h a) (any-none test h l)
+
+  -- A test that passes no less.
+  pub any-weaker : (test other : A → Bool) → ((a : A) → test a ≡ true → other a ≡ true) → (l : List A) → any test l ≡ true → any other l ≡ true
+  unfolding any
+  any-weaker test other h [] e = e
+  any-weaker test other h (a ∷ l) e = go (test a) refl e (any-weaker test other h l)
+    where
+      either : (t : Bool) → (t || true) ≡ true
+      either true = refl
+      either false = refl
+
+      go : (t : Bool) → test a ≡ t → (t || any test l) ≡ true → (any test l ≡ true → any other l ≡ true) → (other a || any other l) ≡ true
+      go true q e r = rw (h a q)
+      go false q e r = rw (r e) (either (other a))
 
 module _ {A : Type 0} (test : A → Bool) where
   -- Where some pass, one does.
@@ -101,3 +115,15 @@ pub any-map : {A B : Type 0} (g : A → B) (test : A → Bool) (other : B → Bo
 unfolding any
 any-map g test other [] r = refl
 any-map g test other (a ∷ l) r = cc (r a (List·Memᴰ·head refl), any-map g test other l (λ x m. r x (List·Memᴰ·tail m)))
+
+-- A function under which none passes more: where none passed, none does.
+pub any-mapped-less : {A B : Type 0} (g : A → B) (test : A → Bool) (other : B → Bool) → ((a : A) → other (g a) ≡ true → test a ≡ true) → (l : List A) → any test l ≡ false
+    → any other (map g l) ≡ false
+unfolding any
+any-mapped-less g test other h [] e = refl
+any-mapped-less g test other h (a ∷ l) e = go (test a) (other (g a)) refl refl e (any-mapped-less g test other h l)
+  where
+    go : (t u : Bool) → test a ≡ t → other (g a) ≡ u → (t || any test l) ≡ false → (any test l ≡ false → any other (map g l) ≡ false) → (u || any other (map g l)) ≡ false
+    go true u p q e r = absurd (true≢false e)
+    go false true p q e r = absurd (false≢true (sym p ∙ h a q))
+    go false false p q e r = r e

@@ -1,28 +1,30 @@
 -- The statements of ../specs/Claims.antt, proved.
 use mathlib.Core.Path.{_≡_, refl, sym, ap, _∙_}
-use mathlib.Core.Bool.{_||_, false≢true}
+use mathlib.Core.Bool.{false≢true}
 use mathlib.Core.List.{List, [], _∷_, map, map-map}
 use native.Mathlib.Omega.{arith}
 use lib.ListN.{take, drop, length-map}
 use Rattle.packing.specs.Prelude.{ℕ, suc, total, Opening, Production, First, Second, Command, Count, Switch}
-use Rattle.packing.specs.Refusals.{isPlaced, isWithdrawn, isSwitched, word}
+use Rattle.packing.specs.Refusals.{word}
 use Rattle.packing.specs.Shelves.{Shelf, belonging}
 use Rattle.packing.specs.Run.{answerOf, run, packing, outcomes, shelfFrom, shelf, current, stillShelved}
-use Rattle.packing.specs.Claims.{HoldsAnswered, NeverOverfull, LoadsAddUp, Stays, Opened, Withdrawals, Prefix, AnswersInRange, Counts, EarlyCount, Productions, RefusedChangesNothing}
+use Rattle.packing.specs.Claims.{HoldsAnswered, NeverOverfull, LoadsAddUp, Stays, Opened, Withdrawals, Settlings, Prefix, AnswersInRange, Counts, EarlyCount, Productions, RefusedChangesNothing}
 use Rattle.packing.proofs.Productions.{current-after, stays-current}
-use Rattle.packing.proofs.Moves.{trace, unchanged-shelf}
+use Rattle.packing.proofs.Moves.{trace, isChange, unchanged-shelf}
 use Rattle.packing.proofs.Reached.{reached, both-in-stock}
 use Rattle.packing.proofs.Numbers.{b2s-are, trace-named, opened-is}
 use Rattle.packing.proofs.Shelved.{lying}
 use Rattle.packing.proofs.Holding.{holds, shown-few}
 use Rattle.packing.proofs.Withdrawals.{withdrawn-exactly, withdrawn-if-there, withdrawn-from}
+use Rattle.packing.proofs.Settlings.{settled-exactly, settled-outside, settled-within, settled-in}
 use Rattle.packing.proofs.Classes.{classes-stay}
 use Rattle.packing.proofs.Counting.{numbers-answered, walk-finds}
 use Rattle.packing.proofs.Running.{take-mapped, drop-mapped, run-prefix, answer-at, shelf-at, other-stays}
 pub use Rattle.packing.proofs.SizeClasses.{class-bounds, bounds-class}
 pub use Rattle.packing.proofs.Lowest.{lowest-permitted}
-pub use Rattle.packing.proofs.Stock.{refused-exactly}
+pub use Rattle.packing.proofs.Stock.{refused-exactly, range-refused-exactly}
 pub use Rattle.packing.proofs.FreeUnits.{free-units}
+pub use Rattle.packing.proofs.TrueSizes.{true-sizes-fit}
 pub use Rattle.packing.proofs.Looks.{looks-taken}
 pub use Rattle.packing.proofs.Shelved.{one-list}
 pub use Rattle.packing.proofs.Numbers.{opened-is}
@@ -71,6 +73,15 @@ module _ (o : Opening) (cs : List Command) where
         same-bin = λ j named bin free later others c a. withdrawn-from o cs j named later c bin free others a;
       }
 
+  pub settlings : Settlings o cs
+  settlings =
+      record {
+        exactly = settled-exactly o cs;
+        outside = λ j named size least greatest later here. settled-outside o cs j named size later here least greatest;
+        within = λ j named size least greatest a later others here. settled-within o cs j named size later here least greatest a others;
+        same-bin = λ j named size bin free later others here. settled-in o cs j named size later here bin free others;
+      }
+
   pub counts : Counts o cs
   counts =
       record {
@@ -99,4 +110,4 @@ module _ (o : Opening) (cs : List Command) where
 -- A refused command leaves the shelf as it was: its production's packing, the other's, and the production that is current.
 pub refused-changes-nothing : (o : Opening) (s : Shelf) (n : ℕ) (c : Command) → RefusedChangesNothing o s n c
 refused-changes-nothing o s n c reason e =
-    unchanged-shelf o s n c (λ z. false≢true (sym (ap (λ a. isPlaced a || isWithdrawn a || isSwitched a) e) ∙ z))
+    unchanged-shelf o s n c (λ z. false≢true (sym (ap isChange e) ∙ z))

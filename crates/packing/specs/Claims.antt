@@ -1,21 +1,22 @@
 -- What is promised of the model, as statements; ../proofs shows each of every opening and every list of commands. Demand 3 and the plan of a packing's
 -- own answers are stated in the crate worst_case.
-use Rattle.packing.specs.Prelude.{ℕ, suc, _+_, _*_, _^_, _≤_, _<_, min, _≡_, _↔_, _⊎_, Bool, true, false, _||_}
-use Rattle.packing.specs.Prelude.{List, [], _∷_, _++_, map, zipWith, flatten, reverse, length, take, drop, List·Memᴰ, total, any, keep, _=?_}
-use Rattle.packing.specs.Prelude.{Opening, SizeClass, A, B1, B2, X, Production, First, Second, Command, Shelve, Count, Withdraw, Switch, Outcome, Placed, Withdrawn, Switched, Refused, ItemReason, SizeZero, AboveCapacity, StockSpent, NotShelved}
+use Rattle.packing.specs.Prelude.{ℕ, suc, _+_, _*_, _^_, _≤_, _<_, min, _≡_, _↔_, _⊎_, Bool, true, false, _||_, none}
+use Rattle.packing.specs.Prelude.{List, [], _∷_, _++_, map, zipWith, flatten, reverse, length, take, drop, List·Memᴰ, total, any, keep, _=?_, if_then_else_}
+use Rattle.packing.specs.Prelude.{Opening, SizeClass, A, B1, B2, X, Production, First, Second, Command, Shelve, Count, Withdraw, Switch, Reserve, Settle, Outcome, Placed, Withdrawn, Switched, Settled, Refused, ItemReason, SizeZero, AboveCapacity, StockSpent, NotShelved, RangeWrong, NotReserved, OutsideRange}
 use Rattle.packing.specs.Prelude.{StreamResult, PlanResult}
 use Rattle.packing.specs.Productions.{other}
-use Rattle.packing.specs.Refusals.{isRefused, isPlaced, isWithdrawn, binsNamed, word, freeUnits, outcomeOf, figures, streamGives, planGives}
+use Rattle.packing.specs.Refusals.{isRefused, isPlaced, isWithdrawn, isSettled, binsNamed, word, freeUnits, outcomeOf, figures, streamGives, planGives}
 use Rattle.packing.specs.SizeClasses.{sizeClass, countB2}
-use Rattle.packing.specs.Bins.{Item, Bin, Packing, opened, load, itemsOf, kind, stored}
+use Rattle.packing.specs.Bins.{Item, Bin, Packing, opened, load, itemsOf, kind, stored, unsettled, inRange}
 use Rattle.packing.specs.Placing.{permitted, target, takes}
 use Rattle.packing.specs.Looks.{height}
-use Rattle.packing.specs.Shelves.{Shelf, own, isShelve, isSwitch}
+use Rattle.packing.specs.Shelves.{Shelf, own, isSwitch}
+use Rattle.packing.specs.Sending.{shelvesItem, sizeOf, fault, itemOf}
 use Rattle.packing.specs.Limits.{openingGood, mostCommands}
 use Rattle.packing.specs.Streams.{isOpening, firstByte, openingLength, openingOf, behindOpening, accepted, commands, verdict}
-use Rattle.packing.specs.Run.{item, Step, answerOn, nextShelf, outcomes, answers, looksTaken, mostLooks, current, steps, placements, stillShelved, packing, result}
+use Rattle.packing.specs.Run.{Step, answerOn, nextShelf, outcomes, answers, looksTaken, mostLooks, current, steps, placements, stillShelved, packing, result}
 use Rattle.packing.specs.Counting.{stockPlaces, walk}
-use Rattle.packing.specs.Compared.{acceptedSizes, numberOpened, noneOut, shelfPlan, shelvedSizes, sizesIn}
+use Rattle.packing.specs.Compared.{acceptedSizes, numberOpened, noneAltered, shelfPlan, shelvedSizes, sizesIn}
 
 -- The inequalities of each size class: the tests before it failed.
 abbrev pub Bounds : (c s : ℕ) → SizeClass → Type 0
@@ -37,6 +38,8 @@ pub record SoundBin (o : Opening) (b : Bin) : Type 0 where
   pub from-class-1 : 1 ≤ b .class
   pub to-class-4 : b .class ≤ 4
   pub in-class : (i : Item) → List·Memᴰ i (b .items) → mayLieIn (kind o i) (b .class) ≡ true
+  -- An item counts by "the greatest till then".
+  pub till-settled : (i : Item) → List·Memᴰ i (b .items) → unsettled i ≡ true → i .size ≡ i .greatest
 
 -- In a packing the bin of this number has so many free units: with its load they make up the capacity, and it takes an item that is permitted there, as
 -- first fit asks, exactly if the size is at most so many.
@@ -83,6 +86,20 @@ pub record OnShelf (ts : List Step) (named : ℕ) : Type 0 where
   pub shelved : ShelvedIn ts named bin
   pub not-out : (t : Step) → List·Memᴰ t ts → t .command ≡ Withdraw named → isRefused (t .outcome) ≡ true
 
+-- The item of this number is on the shelf and unsettled, by the answers alone: a step of 06 with these bare sizes shelved it, and none settled it.
+pub record Unsettled (ts : List Step) (named least greatest : ℕ) : Type 0 where
+  pub on-shelf : OnShelf ts named
+  pub ranged : on-shelf .shelved .step .command ≡ Reserve least greatest
+  pub not-settled : (t : Step) (size : ℕ) → List·Memᴰ t ts → t .command ≡ Settle named size → isRefused (t .outcome) ≡ true
+
+-- The stored size that an item turns out to have, where `truth` gives the bare size of each command's: any that is settled has its own.
+abbrev pub trueSize : Opening → (truth : (number : ℕ) → ℕ) → Item → ℕ
+trueSize o truth i = if unsettled i then stored o (truth (i .command)) else i .size
+
+-- The true size of each of these items is within its range.
+abbrev pub WithinRanges : Opening → (truth : (number : ℕ) → ℕ) → List Item → Type 0
+WithinRanges o truth items = (i : Item) → List·Memᴰ i items → unsettled i ≡ true → inRange (stored o (truth (i .command))) i ≡ true
+
 -- The classes of the bins, by number.
 abbrev pub classesOf : Packing → List ℕ
 classesOf p = map (λ b. b .class) (p .bins)
@@ -100,8 +117,16 @@ module _ (o : Opening) (q : Production) (cs : List Command) where
     -- Nor does the load of a bin exceed it; every bin has its class, 1 to 4.
     pub bins : (j : ℕ) (b : Bin) → List·Memᴰ b (packing o q (take j cs) .bins) → SoundBin o b
 
+  -- "For any true sizes of unsettled masters within their ranges, no cartridge is overfilled": after each command the items still shelved that were
+  -- answered n turn out to be together no larger than the capacity, and so do those in a bin.
+  pub record TrueSizesFit : Type 0 where
+    pub shown : (truth : (number : ℕ) → ℕ) (j n : ℕ) → WithinRanges o truth (map (λ s. s .item) (stillShelved o q (take j cs)))
+        → total (map (λ s. trueSize o truth (s .item)) (keep (λ s. s .bin =? n) (stillShelved o q (take j cs)))) ≤ o .capacity
+    pub bins : (truth : (number : ℕ) → ℕ) (j : ℕ) (b : Bin) → List·Memᴰ b (packing o q (take j cs) .bins) → WithinRanges o truth (b .items)
+        → total (map (trueSize o truth) (b .items)) ≤ o .capacity
+
   -- Where command j + 1, of this production, is answered by a bin and its free units, these are that bin's after every command up to which it is opened
-  -- and the items still shelved that were answered its number are the same: from that command on, until an item goes there or leaves it.
+  -- and the items still shelved that were answered its number are the same: from that command on, until an item goes there, leaves it or is settled there.
   abbrev pub FreeUnits : Type 0
   FreeUnits =
       (j i bin : ℕ) (a : Outcome) (later : List Outcome) → current o (take j cs) ≡ q → drop j (outcomes o cs) ≡ a ∷ later → binsNamed a ≡ bin ∷ []
@@ -112,9 +137,9 @@ module _ (o : Opening) (q : Production) (cs : List Command) where
   abbrev pub LoadsAddUp : Type 0
   LoadsAddUp = (j : ℕ) → total (map load (packing o q (take j cs) .bins)) ≡ total (shelvedSizes o q (take j cs))
 
-  -- Where no withdrawal is accepted, the items still shelved are those accepted.
+  -- Where no withdrawal and no settling is accepted, the items still shelved are those accepted.
   abbrev pub OneList : Type 0
-  OneList = noneOut o q cs ≡ true → shelfPlan o q cs ≡ placements o q cs
+  OneList = noneAltered o q cs ≡ true → shelfPlan o q cs ≡ placements o q cs
 
   pub record Stays : Type 0 where
     -- "The B2 count never goes back": it is of all items accepted, whatever became of them.
@@ -143,8 +168,8 @@ module _ (o : Opening) (cs : List Command) where
   -- Each item goes to the lowest permitted bin with space under the loads then present, of its production.
   abbrev pub LowestPermitted : Type 0
   LowestPermitted =
-      (j size bin free : ℕ) (later : List Command) (others : List Outcome) → drop j cs ≡ Shelve size ∷ later
-      → drop j (outcomes o cs) ≡ Placed bin free ∷ others → Lowest o (packing o (current o (take j cs)) (take j cs)) (item (suc j) (stored o size)) bin
+      (j bin free : ℕ) (c : Command) (later : List Command) (others : List Outcome) → drop j cs ≡ c ∷ later
+      → drop j (outcomes o cs) ≡ Placed bin free ∷ others → Lowest o (packing o (current o (take j cs)) (take j cs)) (itemOf o (suc j) c) bin
 
   pub record Withdrawals : Type 0 where
     -- Refused with 17 exactly when the item named is not on the shelf of the production: "a master of the other cannot be taken out".
@@ -156,6 +181,23 @@ module _ (o : Opening) (cs : List Command) where
     -- Its answer is the very bin that the command it names was answered.
     pub same-bin : (j named bin free : ℕ) (later : List Command) (others : List Outcome) → drop j cs ≡ Withdraw named ∷ later
         → drop j (outcomes o cs) ≡ Withdrawn bin free ∷ others → ShelvedIn (steps o (current o (take j cs)) (take j cs)) named bin
+
+  pub record Settlings : Type 0 where
+    -- Refused with 20 exactly when the item named is "not an earlier 06 master of the same production, still shelved and unsettled".
+    pub exactly : (j named size : ℕ) (later : List Command) → drop j cs ≡ Settle named size ∷ later
+        → (take 1 (drop j (outcomes o cs)) ≡ Refused NotReserved ∷ [])
+        ↔ ((least greatest : ℕ) → Unsettled (steps o (current o (take j cs)) (take j cs)) named least greatest → ⊥)
+    -- With 21 exactly when it is one and the size is outside the range that its command gave, both as they were sent: "after 20".
+    pub outside : (j named size least greatest : ℕ) (later : List Command) → drop j cs ≡ Settle named size ∷ later
+        → Unsettled (steps o (current o (take j cs)) (take j cs)) named least greatest
+        → (take 1 (drop j (outcomes o cs)) ≡ Refused OutsideRange ∷ []) ↔ ((size < least) ⊎ (greatest < size))
+    -- There is no other check: one that is within its range is settled.
+    pub within : (j named size least greatest : ℕ) (a : Outcome) (later : List Command) (others : List Outcome) → drop j cs ≡ Settle named size ∷ later
+        → drop j (outcomes o cs) ≡ a ∷ others → Unsettled (steps o (current o (take j cs)) (take j cs)) named least greatest
+        → least ≤ size → size ≤ greatest → isSettled a ≡ true
+    -- Its answer is the very bin that the 06 it names was answered.
+    pub same-bin : (j named size bin free : ℕ) (later : List Command) (others : List Outcome) → drop j cs ≡ Settle named size ∷ later
+        → drop j (outcomes o cs) ≡ Settled bin free ∷ others → ShelvedIn (steps o (current o (take j cs)) (take j cs)) named bin
 
   -- The answers to the first j commands depend on the opening and those j alone.
   abbrev pub Prefix : Type 0
@@ -170,22 +212,22 @@ module _ (o : Opening) (cs : List Command) where
         ≡ figures ((length (shelvedSizes o First cs) + length (shelvedSizes o Second cs)) ∷ (numberOpened o First cs + numberOpened o Second cs) ∷ mostLooks o cs ∷ [])
     pub to-stock : numberOpened o First cs + numberOpened o Second cs ≤ o .stock
 
-  -- A bin that is on the shelf of its production when command j + 1 comes takes the item of this size.
-  abbrev pub Fitting : (j size : ℕ) → Type 0
-  Fitting j size = Taker o (packing o (current o (take j cs)) (take j cs)) (item (suc j) (stored o size))
+  -- A bin that is on the shelf of its production when command j + 1, which is c, comes takes the item that it sends.
+  abbrev pub Fitting : (j : ℕ) → Command → Type 0
+  Fitting j c = Taker o (packing o (current o (take j cs)) (take j cs)) (itemOf o (suc j) c)
 
   -- The looks of each command, and the largest.
   pub record Looks : Type 0 where
     pub height-is : IsHeight (o .stock) (height (o .stock))
     -- "Every master that passes the checks before 10 makes exactly one search, of 1 look if nothing fits and of 1 + h otherwise."
-    pub nothing-fits : (j size : ℕ) (later : List Command) → drop j cs ≡ Shelve size ∷ later → 1 ≤ size → size + o .trailer ≤ o .capacity
-        → (Fitting j size → ⊥) → take 1 (drop j (looksTaken o cs)) ≡ 1 ∷ []
-    pub fits : (j size : ℕ) (later : List Command) → drop j cs ≡ Shelve size ∷ later → 1 ≤ size → size + o .trailer ≤ o .capacity
-        → Fitting j size → take 1 (drop j (looksTaken o cs)) ≡ (1 + height (o .stock)) ∷ []
+    pub nothing-fits : (j : ℕ) (c : Command) (later : List Command) → drop j cs ≡ c ∷ later → shelvesItem c ≡ true → fault c ≡ none
+        → sizeOf c + o .trailer ≤ o .capacity → (Fitting j c → ⊥) → take 1 (drop j (looksTaken o cs)) ≡ 1 ∷ []
+    pub fits : (j : ℕ) (c : Command) (later : List Command) → drop j cs ≡ c ∷ later → shelvesItem c ≡ true → fault c ≡ none
+        → sizeOf c + o .trailer ≤ o .capacity → Fitting j c → take 1 (drop j (looksTaken o cs)) ≡ (1 + height (o .stock)) ∷ []
     -- One that does not pass them makes none, and no other command does.
-    pub not-searched : (j size : ℕ) (later : List Command) → drop j cs ≡ Shelve size ∷ later → (size ≡ 0) ⊎ (o .capacity < size + o .trailer)
+    pub not-searched : (j : ℕ) (c : Command) (later : List Command) → drop j cs ≡ c ∷ later → (fault c ≡ none → ⊥) ⊎ (o .capacity < sizeOf c + o .trailer)
         → take 1 (drop j (looksTaken o cs)) ≡ 0 ∷ []
-    pub others : (j : ℕ) (c : Command) (later : List Command) → drop j cs ≡ c ∷ later → isShelve c ≡ false → take 1 (drop j (looksTaken o cs)) ≡ 0 ∷ []
+    pub others : (j : ℕ) (c : Command) (later : List Command) → drop j cs ≡ c ∷ later → shelvesItem c ≡ false → take 1 (drop j (looksTaken o cs)) ≡ 0 ∷ []
     -- "No placement takes more than 1 + h looks."
     pub at-most : (n : ℕ) → List·Memᴰ n (looksTaken o cs) → n ≤ 1 + height (o .stock)
     -- The figure returned is "the largest over the stream, 0 if no search was made".
@@ -229,8 +271,7 @@ abbrev pub AcceptedWhole : (stream : List ℕ) (words : ℕ) (o : Opening) (cs :
 AcceptedWhole stream words o cs = verdict stream words ≡ accepted o cs → WholeStream stream words o cs
 
 -- A new bin is called for and the stock is spent: no permitted bin of the production has space, and "both together have opened it all".
-pub record Spent (o : Opening) (s : Shelf) (i : Item) (bare : ℕ) : Type 0 where
-  pub some : 1 ≤ bare
+pub record Spent (o : Opening) (s : Shelf) (i : Item) : Type 0 where
   pub within-capacity : i .size ≤ o .capacity
   pub no-space : (b : Bin) → List·Memᴰ b (own s .bins) → permitted o (target o (own s) i) b ≡ true → o .capacity < load b + i .size
   pub all-opened : o .stock ≤ opened (s .first) + opened (s .second)
@@ -240,7 +281,14 @@ pub record Spent (o : Opening) (s : Shelf) (i : Item) (bare : ℕ) : Type 0 wher
 pub record RefusedExactly (o : Opening) (s : Shelf) (n size : ℕ) : Type 0 where
   pub zero : (answerOn o s n (Shelve size) ≡ Refused SizeZero) ↔ (size ≡ 0)
   pub above : (answerOn o s n (Shelve size) ≡ Refused AboveCapacity) ↔ ((1 ≤ size) × (o .capacity < size + o .trailer))
-  pub spent : (answerOn o s n (Shelve size) ≡ Refused StockSpent) ↔ Spent o s (item n (stored o size)) size
+  pub spent : (answerOn o s n (Shelve size) ≡ Refused StockSpent) ↔ ((1 ≤ size) × Spent o s (itemOf o n (Shelve size)))
+
+-- One of 06 in the order 19, 9, 10, where 19 comes "in place of 8" and 9 goes by the greatest size.
+pub record RangeRefusedExactly (o : Opening) (s : Shelf) (n least greatest : ℕ) : Type 0 where
+  pub wrong : (answerOn o s n (Reserve least greatest) ≡ Refused RangeWrong) ↔ ((least ≡ 0) ⊎ (greatest < least))
+  pub above : (answerOn o s n (Reserve least greatest) ≡ Refused AboveCapacity) ↔ ((1 ≤ least) × (least ≤ greatest) × (o .capacity < greatest + o .trailer))
+  pub spent : (answerOn o s n (Reserve least greatest) ≡ Refused StockSpent) ↔ ((1 ≤ least) × (least ≤ greatest) × Spent o s (itemOf o n (Reserve least greatest)))
+  pub never-8 : answerOn o s n (Reserve least greatest) ≡ Refused SizeZero → ⊥
 
 -- A refused command changes nothing.
 abbrev pub RefusedChangesNothing : Opening → Shelf → (number : ℕ) → Command → Type 0

@@ -1,11 +1,15 @@
 -- "What demand 3 compares", after a list of commands and for one production: the accepted items and the number opened on one side, the bins that a plan
 -- uses on the other. And the production's own plan, which is of the items still shelved.
-use Rattle.packing.specs.Prelude.{ℕ, _+_, Bool, not, List, [], _∷_, map, greatest, any, keep, _=?_, if_then_else_, Opening, Production, Command, Entry}
-use Rattle.packing.specs.Refusals.{isWithdrawn}
+use Rattle.packing.specs.Prelude.{ℕ, _+_, Bool, not, _||_, List, [], _∷_, map, greatest, any, keep, _=?_, if_then_else_, Opening, Production, Command, Outcome, Entry}
+use Rattle.packing.specs.Refusals.{isWithdrawn, isSettled}
 use Rattle.packing.specs.Run.{entryOf, steps, placements, stillShelved}
 
+-- An item that was shelved before is taken out or settled.
+abbrev pub isAltered : Outcome → Bool
+isAltered a = isWithdrawn a || isSettled a
+
 module _ (o : Opening) (q : Production) (cs : List Command) where
-  -- "The accepted masters": the stored sizes, in the stream's order, of the commands that shelve an item and are not refused.
+  -- "The accepted masters": the stored sizes, in the stream's order, of the commands that shelve an item and are not refused, "by greatest sizes".
   abbrev pub acceptedSizes : List ℕ
   acceptedSizes = map (λ e. e .size) (placements o q cs)
 
@@ -13,11 +17,13 @@ module _ (o : Opening) (q : Production) (cs : List Command) where
   abbrev pub numberOpened : ℕ
   numberOpened = greatest (map (λ e. e .bin) (placements o q cs))
 
-  -- "The 5k + 15 figure is for streams without withdrawals": none of this production that is accepted. A refused one takes nothing out.
-  abbrev pub noneOut : Bool
-  noneOut = not (any (λ t. isWithdrawn (t .outcome)) (steps o q cs))
+  -- "The 5k + 15 figure is for streams without withdrawals", and "with no settling": none of this production that is accepted. A refused one alters
+  -- nothing.
+  abbrev pub noneAltered : Bool
+  noneAltered = not (any (λ t. isAltered (t .outcome)) (steps o q cs))
 
-  -- "The loads' sum and the shelf's plan are of masters still shelved": each with the bin that it was answered, in the order of their commands.
+  -- "The loads' sum and the shelf's plan are of masters still shelved": each with the bin that it was answered, in the order of their commands. They "take
+  -- settled sizes, or the greatest till then".
   abbrev pub shelfPlan : List Entry
   shelfPlan = map entryOf (stillShelved o q cs)
 

@@ -8,6 +8,8 @@ pub mod Bins
 pub mod Placing
 pub mod Looks
 pub mod Withdrawing
+pub mod Settling
+pub mod Sending
 pub mod Shelves
 pub mod Streams
 pub mod Run

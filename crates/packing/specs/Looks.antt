@@ -1,6 +1,6 @@
 -- "Looks per placement" (document 02, point 8): how many looks a search takes, and which items are searched for. By the packing alone: what fits, and what
 -- does not.
-use Rattle.packing.specs.Prelude.{ℕ, zero, suc, _+_, _^_, Bool, true, false, any, _=?_, _≤?_, _<?_, if_then_else_, Opening}
+use Rattle.packing.specs.Prelude.{ℕ, zero, suc, _+_, _^_, Bool, true, false, Option, none, some, any, _≤?_, _<?_, if_then_else_, Opening, ItemReason}
 use Rattle.packing.specs.Bins.{Item, Packing}
 use Rattle.packing.specs.Placing.{takes}
 
@@ -22,9 +22,9 @@ module _ (o : Opening) (p : Packing) (i : Item) where
   fits = any (takes o p i) (p .bins)
 
   -- "Every master that passes the checks before 10 makes exactly one search, of 1 look if nothing fits and of 1 + h otherwise", h by the whole stock. The
-  -- checks before 10 are 8, by the bare size, and 9.
-  unfoldable pub looks : (bare : ℕ) → ℕ
-  looks bare =
-      if bare =? 0 then 0 else
+  -- checks before 10 are 8, or 19 in its place, and 9.
+  unfoldable pub looks : (fault : Option ItemReason) → ℕ
+  looks (some reason) = 0
+  looks none =
       if o .capacity <? i .size then 0 else
       if fits then 1 + height (o .stock) else 1

@@ -1,6 +1,6 @@
 -- "Where a master goes": Refined First-Fit, one item at a time.
-use Rattle.packing.specs.Prelude.{ℕ, suc, _+_, _%_, Bool, _&&_, List, [], _∷_, _=?_, _≤?_, _<?_, if_then_else_, Opening}
-use Rattle.packing.specs.Prelude.{SizeClass, A, B1, B2, X, ItemReason, SizeZero, AboveCapacity, StockSpent}
+use Rattle.packing.specs.Prelude.{ℕ, suc, _+_, _%_, Bool, _&&_, Option, none, some, List, [], _∷_, _=?_, _≤?_, _<?_, if_then_else_, Opening}
+use Rattle.packing.specs.Prelude.{SizeClass, A, B1, B2, X, ItemReason, AboveCapacity, StockSpent}
 use Rattle.packing.specs.SizeClasses.{countB2}
 use Rattle.packing.specs.Bins.{Item, Bin, Packing, opened, load, add, kind, holdsA}
 
@@ -60,10 +60,10 @@ module _ (o : Opening) where
     abbrev pub spent : (left : ℕ) → Bool
     spent left = (opened p <? binFor) && (left ≤? opened p)
 
-    -- For one item the order is 8, 9, 10. "Refusal 8 goes by the bare size", 9 and all that follows by the stored one.
-    unfoldable pub decision : (left bare : ℕ) → Decision
-    decision left bare =
-        if bare =? 0 then refusing SizeZero else
+    -- For one item the order is 8, 9, 10, or 19, 9, 10: the fault of the bare sizes that were sent, if they have one, and then what goes by the stored size.
+    unfoldable pub decision : (left : ℕ) (fault : Option ItemReason) → Decision
+    decision left (some reason) = refusing reason
+    decision left none =
         if o .capacity <? i .size then refusing AboveCapacity else
         if spent left then refusing StockSpent else
         into binFor

@@ -12,10 +12,10 @@ pub use Rattle.packing.specs.declared.{ItemReason.ItemReason, Outcome.Ou
 pub use Rattle.packing.specs.declared.{Entry.Entry, PlanReason.PlanReason, PlanResult.PlanResult}
 pub use Rattle.packing.specs.declared.SizeClass.the-variants.{A, B1, B2, X}
 pub use Rattle.packing.specs.declared.Production.the-variants.{First, Second}
-pub use Rattle.packing.specs.declared.Command.the-variants.{Shelve, Count, Withdraw, Switch}
+pub use Rattle.packing.specs.declared.Command.the-variants.{Shelve, Count, Withdraw, Switch, Reserve, Settle}
 pub use Rattle.packing.specs.declared.Width.the-variants.{Known, Unknown}
-pub use Rattle.packing.specs.declared.Outcome.the-variants.{Placed, Counted, Withdrawn, Switched, Refused}
-pub use Rattle.packing.specs.declared.ItemReason.the-variants.{SizeZero, AboveCapacity, StockSpent, NotShelved}
+pub use Rattle.packing.specs.declared.Outcome.the-variants.{Placed, Counted, Withdrawn, Switched, Settled, Refused}
+pub use Rattle.packing.specs.declared.ItemReason.the-variants.{SizeZero, AboveCapacity, StockSpent, NotShelved, RangeWrong, NotReserved, OutsideRange}
 pub use Rattle.packing.specs.declared.StreamReason.the-variants.{NoOpening, UnknownOpcode, CutShort, SecondOpening, OutsideLimits, TooManyCommands, TooFewWords, NoProduction}
 pub use Rattle.packing.specs.declared.PlanReason.the-variants.{CapacityOutside, TooLong, SizeOutside, BinOutside, Overfull, OtherItems}
 use lib.Dec.{eqb, leb, ltb}

@@ -1,19 +1,17 @@
 -- What an accepted stream does: each command gets the shelf that the one before it left, the first the empty one, and works on its production's packing.
 use Rattle.packing.specs.Prelude.{ℕ, suc, _+_, true, false, not, List, [], _∷_, _++_, map, foldl, flatten, length, drop, keep, greatest, if_then_else_}
-use Rattle.packing.specs.Prelude.{Opening, Production, First, Second, Command, Shelve, Count, Withdraw, Switch}
-use Rattle.packing.specs.Prelude.{Outcome, Placed, Counted, Withdrawn, Switched, Refused, Answer, Entry, StreamResult}
+use Rattle.packing.specs.Prelude.{Opening, Production, First, Second, Command, Shelve, Count, Withdraw, Switch, Reserve, Settle}
+use Rattle.packing.specs.Prelude.{Outcome, Placed, Counted, Withdrawn, Switched, Settled, Refused, Answer, Entry, StreamResult}
 use Rattle.packing.specs.Productions.{isSame}
 use Rattle.packing.specs.Refusals.{isRefused}
 use Rattle.packing.specs.Bins.{Item, Packing, opened, freeOn, stored}
 use Rattle.packing.specs.Placing.{Decision, into, refusing, decision, placed}
 use Rattle.packing.specs.Looks.{looks}
 use Rattle.packing.specs.Withdrawing.{isNamed, without, withdrawal}
+use Rattle.packing.specs.Settling.{settled, settling, settlement}
+use Rattle.packing.specs.Sending.{shelvesItem, sizeOf, nameOf, fault, itemOf}
 use Rattle.packing.specs.Shelves.{Shelf, emptyShelf, of, own, stockLeft, putBack, belonging}
 use Rattle.packing.specs.Streams.{Read, accepted, refused}
-
--- The item that the command of this number shelves, by its stored size.
-abbrev pub item : (number size : ℕ) → Item
-item number size = record { command = number; size = size }
 
 -- What is decided of an item, as it is answered: with its bin, the free units that it leaves there. (The packing is the one with the item.)
 abbrev pub told : Opening → Packing → Decision → Outcome
@@ -29,19 +27,26 @@ pub record Step : Type 0 where
   pub outcome : Outcome
 
 module _ (o : Opening) where
-  -- In one production's packing, for which so much of the stock is left.
+  -- In one production's packing, for which so much of the stock is left. 02 and 06 are answered as their item is decided of.
+  abbrev pub shelvedAs : (left : ℕ) → Packing → (number : ℕ) → Command → Outcome
+  shelvedAs left p n c = told o (placed o p (itemOf o n c)) (decision o p (itemOf o n c) left (fault c))
+
   abbrev pub answerTo : (left : ℕ) → Packing → (number : ℕ) → Command → Outcome
-  answerTo left p n (Shelve s) = told o (placed o p (item n (stored o s))) (decision o p (item n (stored o s)) left s)
+  answerTo left p n (Shelve size) = shelvedAs left p n (Shelve size)
   answerTo left p n Count = Counted (opened p)
   answerTo left p n (Withdraw named) = withdrawal o p named
   answerTo left p n (Switch r) = Switched r
+  answerTo left p n (Reserve least greatest) = shelvedAs left p n (Reserve least greatest)
+  answerTo left p n (Settle named size) = settlement o p named (stored o size)
 
   -- What a command does to its production, if it is not refused.
   abbrev pub done : Packing → (number : ℕ) → Command → Packing
-  done p n (Shelve s) = placed o p (item n (stored o s))
+  done p n (Shelve size) = placed o p (itemOf o n (Shelve size))
   done p n Count = p
   done p n (Withdraw named) = without named p
   done p n (Switch r) = p
+  done p n (Reserve least greatest) = placed o p (itemOf o n (Reserve least greatest))
+  done p n (Settle named size) = settling named (stored o size) p
 
   -- A refused command changes nothing: loads, classes and the B2 count are as they were.
   abbrev pub next : (left : ℕ) → Packing → (number : ℕ) → Command → Packing
@@ -49,10 +54,7 @@ module _ (o : Opening) where
 
   -- The looks that a command takes: only one that shelves an item makes a search.
   abbrev pub looksTo : Packing → (number : ℕ) → Command → ℕ
-  looksTo p n (Shelve s) = looks o p (item n (stored o s)) s
-  looksTo p n Count = 0
-  looksTo p n (Withdraw named) = 0
-  looksTo p n (Switch r) = 0
+  looksTo p n c = if shelvesItem c then looks o p (itemOf o n c) (fault c) else 0
 
   -- On the shelf a command is answered by its production, and leaves the other as it is.
   abbrev pub answerOn : Shelf → (number : ℕ) → Command → Outcome
@@ -69,28 +71,19 @@ module _ (o : Opening) where
   shelfFrom s n [] = s
   shelfFrom s n (c ∷ cs) = shelfFrom (nextShelf s n c) (suc n) cs
 
--- The bare size that a command shelves an item by, and the number that it names one by.
-abbrev pub sizeOf : Command → ℕ
-sizeOf (Shelve s) = s
-sizeOf Count = 0
-sizeOf (Withdraw named) = 0
-sizeOf (Switch r) = 0
-
-abbrev pub nameOf : Command → ℕ
-nameOf (Shelve s) = 0
-nameOf Count = 0
-nameOf (Withdraw named) = named
-nameOf (Switch r) = 0
-
 -- An item on the shelf, as the answers tell of it: with the bin that it was answered.
 pub record Shelved : Type 0 where
   pub item : Item
   pub bin : ℕ
 
+-- The same, with this size if it is the item named.
+abbrev pub settledThere : (named size : ℕ) → Shelved → Shelved
+settledThere named size s = record { item = settled named size (s .item); bin = s .bin }
+
 abbrev pub entryOf : Shelved → Entry
 entryOf s = record { size = s .item .size; bin = s .bin }
 
--- The commands after the opening are numbered from 1; an answer joins the command's number with placed, counted, withdrawn, switched or refused.
+-- The commands after the opening are numbered from 1; an answer joins the command's number with placed, counted, withdrawn, switched, settled or refused.
 abbrev pub answerOf : Step → Answer
 answerOf t = record { number = t .number; outcome = t .outcome }
 
@@ -103,20 +96,23 @@ stepsOf q (t ∷ ts) = elim (isSame q (t .production)) [
 ]
 
 module _ (o : Opening) where
-  -- A command that shelves an item and is not refused gives its stored size and its bin.
+  -- A command that shelves an item and is not refused gives its stored size, which is the greatest of 06, and its bin.
   abbrev pub placement : Command → Outcome → List Entry
   placement c (Placed bin free) = record { size = stored o (sizeOf c); bin = bin } ∷ []
   placement c (Counted opened) = []
   placement c (Withdrawn bin free) = []
   placement c (Switched r) = []
+  placement c (Settled bin free) = []
   placement c (Refused reason) = []
 
-  -- What the answer to a command makes of the items on the shelf: one that is placed joins them as the last, and the one that is taken out leaves them.
+  -- What the answer to a command makes of the items on the shelf: one that is placed joins them as the last, the one that is taken out leaves them, and
+  -- the one that is settled has its size.
   abbrev pub shelving : (number : ℕ) → Command → Outcome → List Shelved → List Shelved
-  shelving n c (Placed bin free) on = on ++ record { item = item n (stored o (sizeOf c)); bin = bin } ∷ []
+  shelving n c (Placed bin free) on = on ++ record { item = itemOf o n c; bin = bin } ∷ []
   shelving n c (Counted opened) on = on
   shelving n c (Withdrawn bin free) on = keep (λ s. not (isNamed (nameOf c) (s .item))) on
   shelving n c (Switched r) on = on
+  shelving n c (Settled bin free) on = map (settledThere (nameOf c) (stored o (sizeOf c))) on
   shelving n c (Refused reason) on = on
 
   -- Of some steps: the accepted items, each with its bin, whatever became of them.

@@ -1,5 +1,5 @@
 -- The shelf of two productions: a packing of each, and the production that is current.
-use Rattle.packing.specs.Prelude.{ℕ, _-_, Bool, true, false, Opening, Production, First, Second, Command, Shelve, Count, Withdraw, Switch}
+use Rattle.packing.specs.Prelude.{ℕ, _-_, Bool, true, false, Opening, Production, First, Second, Command, Shelve, Count, Withdraw, Switch, Reserve, Settle}
 use Rattle.packing.specs.Productions.{other}
 use Rattle.packing.specs.Bins.{Packing, empty, opened}
 
@@ -29,19 +29,14 @@ abbrev pub putBack : (current : Production) → Packing → Shelf → (next : Pr
 putBack First p s next = record { first = p; second = s .second; current = next }
 putBack Second p s next = record { first = s .first; second = p; current = next }
 
--- Command 02.
-abbrev pub isShelve : Command → Bool
-isShelve (Shelve size) = true
-isShelve Count = false
-isShelve (Withdraw named) = false
-isShelve (Switch r) = false
-
 -- Command 05.
 abbrev pub isSwitch : Command → Bool
 isSwitch (Shelve size) = false
 isSwitch Count = false
 isSwitch (Withdraw named) = false
 isSwitch (Switch r) = true
+isSwitch (Reserve least greatest) = false
+isSwitch (Settle named size) = false
 
 -- It "makes the commands after it belong to that production".
 abbrev pub belonging : Production → Command → Production
@@ -49,3 +44,5 @@ belonging q (Shelve size) = q
 belonging q Count = q
 belonging q (Withdraw named) = q
 belonging q (Switch r) = r
+belonging q (Reserve least greatest) = q
+belonging q (Settle named size) = q

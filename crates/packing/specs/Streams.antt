@@ -1,6 +1,6 @@
 -- "Command streams": a row of bytes is read as an opening and the commands after it, or refused.
 use Rattle.packing.specs.Prelude.{ℕ, zero, suc, _+_, _*_, min, _≡_, Bool, not, _||_, _&&_, List, [], _∷_, foldl, length, take, drop, getD, _=?_, _<?_, if_then_else_}
-use Rattle.packing.specs.Prelude.{Opening, Command, Shelve, Count, Withdraw, Switch, WidthRow, Width, Known, Unknown}
+use Rattle.packing.specs.Prelude.{Opening, Command, Shelve, Count, Withdraw, Switch, Reserve, Settle, WidthRow, Width, Known, Unknown}
 use Rattle.packing.specs.Prelude.{StreamReason, NoOpening, UnknownOpcode, CutShort, SecondOpening, OutsideLimits, TooManyCommands, TooFewWords, NoProduction}
 use Rattle.packing.specs.Limits.{openingGood, mostCommands}
 use Rattle.packing.specs.Productions.{productionOf}
@@ -32,6 +32,8 @@ widths =
     record { opcode = 0x03; width = 0 } ∷
     record { opcode = 0x04; width = 2 } ∷
     record { opcode = 0x05; width = 1 } ∷
+    record { opcode = 0x06; width = 4 + 4 } ∷
+    record { opcode = 0x07; width = 2 + 4 } ∷
     record { opcode = 0x11; width = openingWidth 0x11 } ∷
     []
 
@@ -53,6 +55,8 @@ commandOf b s =
     if b =? 0x02 then Shelve (operand 0 4 s) else
     if b =? 0x04 then Withdraw (operand 0 2 s) else
     if b =? 0x05 then Switch (productionOf (operand 0 1 s)) else
+    if b =? 0x06 then Reserve (operand 0 4 s) (operand 4 4 s) else
+    if b =? 0x07 then Settle (operand 0 2 s) (operand 2 4 s) else
     Count
 
 -- "18 … for a byte above 1": 05 names no production.

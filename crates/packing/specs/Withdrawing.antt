@@ -1,6 +1,6 @@
 -- "Withdrawn masters" (document 02, point 4): command 04, which names an item by the number of the command that shelved it.
 use Rattle.packing.specs.Prelude.{ℕ, suc, Bool, not, map, any, keep, _=?_, if_then_else_, Opening, Outcome, Withdrawn, Refused, NotShelved}
-use Rattle.packing.specs.Bins.{Item, Bin, Packing, freeOn}
+use Rattle.packing.specs.Bins.{Item, Bin, Packing, freeOn, holds}
 use Rattle.packing.specs.Placing.{firstFit}
 
 module _ (named : ℕ) where
@@ -8,7 +8,7 @@ module _ (named : ℕ) where
   isNamed i = i .command =? named
 
   abbrev pub holdsNamed : Bin → Bool
-  holdsNamed b = any isNamed (b .items)
+  holdsNamed b = holds isNamed b
 
   -- The number of the bin that holds the item.
   abbrev pub binHolding : Packing → ℕ

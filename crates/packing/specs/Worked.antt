@@ -1,6 +1,6 @@
 -- "Worked shelves": the cases marked ● make one table, proved together by one theorem that computes over it.
 use Rattle.packing.specs.Prelude.{ℕ, _+_, _*_, _≡_, refl, Bool, true, false, List, [], _∷_, _++_, map, zipWith, flatten, take, drop, replicate, total, greatest, any, keep, _≤?_}
-use Rattle.packing.specs.Prelude.{Opening, SizeClass, A, B1, B2, X, First, Second, Command, Shelve, Count, Withdraw, Switch, StreamResult, PlanResult, Overfull}
+use Rattle.packing.specs.Prelude.{Opening, SizeClass, A, B1, B2, X, First, Second, Command, Shelve, Count, Withdraw, Switch, Reserve, Settle, StreamResult, PlanResult, Overfull}
 use Rattle.packing.specs.Prelude.{CutShort, SecondOpening, TooFewWords, NoProduction}
 use Rattle.packing.specs.Refusals.{word, freeUnits}
 use Rattle.packing.specs.SizeClasses.{sizeClass}
@@ -8,10 +8,11 @@ use Rattle.packing.specs.Placing.{firstFit, put, decision, placed}
 use Rattle.packing.specs.Looks.{heightFrom, height, looks}
 use Rattle.packing.specs.Streams.{widths, lookup, commands, read, verdict}
 use Rattle.packing.specs.Withdrawing.{without, withdrawal}
+use Rattle.packing.specs.Settling.{settling, settlement}
 use Rattle.packing.specs.Run.{runFrom, shelfFrom, stepsOf, packing, outcomes, looksTaken, result, rowAtExit}
 use Rattle.packing.specs.Counting.{stockPlaces, walk}
 use Rattle.packing.specs.Plans.{planOf, limits, fault, entries, check}
-use Rattle.packing.specs.Compared.{numberOpened, shelfPlan, shelvedSizes, used}
+use Rattle.packing.specs.Compared.{acceptedSizes, numberOpened, shelfPlan, shelvedSizes, used}
 
 -- What a case is about.
 pub data Finding : Type 0 where
@@ -73,6 +74,10 @@ seven = 1 ∷ 2 ∷ 3 ∷ 3 ∷ 4 ∷ 5 ∷ 5 ∷ 6 ∷ 7 ∷ 2 ∷ 4 ∷ 6 ∷ 
 -- Seven items fill seven bins, and all but the last are taken out.
 abbrev pub recalled : List Command
 recalled = map Shelve (replicate 7 60) ++ map Withdraw (1 ∷ 2 ∷ 3 ∷ 4 ∷ 5 ∷ 6 ∷ [])
+
+-- Seven items that may fill a bin each, and turn out to be of one unit.
+abbrev pub measured : List Command
+measured = map (Reserve 1) (replicate 7 60) ++ map (λ n. Settle n 1) (1 ∷ 2 ∷ 3 ∷ 4 ∷ 5 ∷ 6 ∷ 7 ∷ [])
 
 -- The stream that document 01 gives to `shelve`, in bytes.
 abbrev pub sample : List ℕ
@@ -192,6 +197,36 @@ table =
     -- It comes after 3, and before 7.
     returns (0x05 ∷ []) is returned (StreamResult.Refused CutShort 8) ∷
     returned (result (verdict (behind (0x05 ∷ 2 ∷ [])) 0)) is returned (StreamResult.Refused NoProduction 8) ∷
+    -- Sizes within a range: 06 goes by the greatest, and 19 comes before 9; 21 one unit below the range and one above it; 20 for one already settled, an
+    -- 02, 0, itself, a later one and a refused 06. An A joins the bin of a settled A.
+    answered 8 (Reserve 10 40 ∷ Reserve 0 5 ∷ Reserve 6 5 ∷ Reserve 1 61 ∷ Reserve 0 61 ∷ map (Settle 1) (9 ∷ 41 ∷ 10 ∷ 10 ∷ []) ++ Shelve 35 ∷ Settle 10 35 ∷ map (λ n. Settle n 1) (0 ∷ 13 ∷ 15 ∷ 2 ∷ []))
+    is words (1 ∷ 32_787 ∷ 32_787 ∷ 32_777 ∷ 32_787 ∷ 32_789 ∷ 32_789 ∷ 1 ∷ 32_788 ∷ 1 ∷ 32_788 ∷ 32_788 ∷ 32_788 ∷ 32_788 ∷ 32_788 ∷ 20 ∷ 0 ∷ 0 ∷ 0 ∷ 0 ∷ 0 ∷ 0 ∷ 50 ∷ 0 ∷ 15 ∷ 0 ∷ 0 ∷ 0 ∷ 0 ∷ 0 ∷ []) ∷
+    -- A withdrawal frees the settled size. Of two A's on a bin one is taken out, and the sixth B2 still goes there; the last is, and the twelfth does not.
+    answered 8 (Reserve 1 31 ∷ Settle 1 1 ∷ Reserve 1 31 ∷ Settle 3 2 ∷ map Shelve (replicate 5 22) ++ Withdraw 1 ∷ Shelve 22 ∷ Withdraw 3 ∷ map Shelve (replicate 6 22))
+    is words (1 ∷ 1 ∷ 1 ∷ 1 ∷ 2 ∷ 2 ∷ 3 ∷ 3 ∷ 4 ∷ 1 ∷ 1 ∷ 1 ∷ 4 ∷ 5 ∷ 5 ∷ 6 ∷ 6 ∷ 7 ∷ 29 ∷ 59 ∷ 28 ∷ 57 ∷ 38 ∷ 16 ∷ 38 ∷ 16 ∷ 38 ∷ 58 ∷ 36 ∷ 38 ∷ 16 ∷ 38 ∷ 16 ∷ 38 ∷ 16 ∷ 38 ∷ []) ∷
+    -- The class of item and bin stays, however small the item turns out to be.
+    answered 8 (Reserve 1 31 ∷ Settle 1 1 ∷ Shelve 20 ∷ Reserve 20 30 ∷ Settle 4 20 ∷ Shelve 20 ∷ Shelve 30 ∷ [])
+    is words (1 ∷ 1 ∷ 2 ∷ 3 ∷ 3 ∷ 2 ∷ 3 ∷ 29 ∷ 59 ∷ 40 ∷ 30 ∷ 40 ∷ 20 ∷ 10 ∷ []) ∷
+    -- The trailer is added to each size: to the greatest for 9, and to the one told for the load. 19 and 21 are as without one.
+    bothRows (trailed 60 3) (Reserve 10 28 ∷ map (Settle 1) (9 ∷ 29 ∷ 28 ∷ []) ++ Reserve 1 57 ∷ Reserve 1 58 ∷ Settle 5 1 ∷ Reserve 0 58 ∷ [])
+    is words (1 ∷ 32_789 ∷ 32_789 ∷ 1 ∷ 2 ∷ 32_777 ∷ 2 ∷ 32_787 ∷ 29 ∷ 0 ∷ 0 ∷ 29 ∷ 0 ∷ 0 ∷ 56 ∷ 0 ∷ []) ∷
+    -- 20 for an item of the other production, and for one that is out.
+    answered 8 (Reserve 5 20 ∷ Switch Second ∷ Settle 1 5 ∷ Switch First ∷ Withdraw 1 ∷ Settle 1 5 ∷ [])
+    is words (1 ∷ 1 ∷ 32_788 ∷ 0 ∷ 1 ∷ 32_788 ∷ 40 ∷ 0 ∷ 0 ∷ 0 ∷ 60 ∷ 0 ∷ []) ∷
+    -- Plans and the loads' sum take settled sizes, or the greatest till then; what was accepted is by the greatest.
+    words (shelvedSizes (opening 60 8) First (Reserve 10 40 ∷ Shelve 20 ∷ Reserve 5 30 ∷ Settle 1 12 ∷ [])) is words (12 ∷ 20 ∷ 30 ∷ []) ∷
+    words (acceptedSizes (opening 60 8) First (Reserve 10 40 ∷ Shelve 20 ∷ Reserve 5 30 ∷ Settle 1 12 ∷ [])) is words (40 ∷ 20 ∷ 30 ∷ []) ∷
+    -- Why the figure of demand 3 is for streams without settlings too: a plan of what is settled uses one bin of seven, and passes.
+    words (shelvedSizes (opening 60 512) First measured) is words (replicate 7 1) ∷
+    planned 60 1 (replicate 7 1) (replicate 7 1) is checked PlanResult.Passed ∷
+    figure (3 * numberOpened (opening 60 512) First measured) is figure 21 ∷
+    -- 06 is searched for as 02 is, and 07 is not.
+    looked 4 (Reserve 0 5 ∷ Reserve 1 61 ∷ Reserve 1 31 ∷ Settle 3 1 ∷ Reserve 1 31 ∷ []) is words (0 ∷ 0 ∷ 1 ∷ 0 ∷ 3 ∷ []) ∷
+    -- The operands of 06 and 07, and where they are cut short.
+    words (rowAtExit freeUnits (verdict (behind (0x06 ∷ 0 ∷ 0 ∷ 0 ∷ 5 ∷ 0 ∷ 0 ∷ 0 ∷ 31 ∷ 0x07 ∷ 0 ∷ 1 ∷ 0 ∷ 0 ∷ 0 ∷ 6 ∷ [])) 2) (7 ∷ 7 ∷ [])) is words (29 ∷ 54 ∷ []) ∷
+    returns (0x06 ∷ 0 ∷ 0 ∷ 0 ∷ 5 ∷ 0 ∷ 0 ∷ 0 ∷ []) is returned (StreamResult.Refused CutShort 8) ∷
+    returns (0x06 ∷ 0 ∷ 0 ∷ 0 ∷ 5 ∷ 0 ∷ 0 ∷ 0 ∷ 31 ∷ 0x07 ∷ 0 ∷ 1 ∷ 0 ∷ 0 ∷ 0 ∷ []) is returned (StreamResult.Refused CutShort 17) ∷
+    returns (0x06 ∷ 0 ∷ 0 ∷ 0 ∷ 5 ∷ 0 ∷ 0 ∷ 0 ∷ 31 ∷ 0x07 ∷ 0 ∷ 1 ∷ 0 ∷ 0 ∷ 0 ∷ 6 ∷ []) is returned (StreamResult.Accepted 1 1 1) ∷
     -- The sample stream, with two words more in each row than it has commands.
     returned (result (verdict sample 12)) is returned (StreamResult.Accepted 8 4 3) ∷
     words (rowAtExit word (verdict sample 12) (replicate 12 7)) is words (1 ∷ 2 ∷ 2 ∷ 3 ∷ 3 ∷ 4 ∷ 1 ∷ 32_778 ∷ 4 ∷ 4 ∷ 7 ∷ 7 ∷ []) ∷
@@ -199,5 +234,5 @@ table =
     []
 
 pub worked-shelves : map (λ c. c .0) table ≡ map (λ c. c .1) table
-unfolding table sizeClass total greatest any keep firstFit put decision placed heightFrom looks without withdrawal runFrom shelfFrom stepsOf stockPlaces walk zipWith flatten used limits fault entries check widths lookup commands read
+unfolding table sizeClass total greatest any keep firstFit put decision placed heightFrom looks without withdrawal settling settlement runFrom shelfFrom stepsOf stockPlaces walk zipWith flatten used limits fault entries check widths lookup commands read
 worked-shelves = refl

@@ -33,13 +33,15 @@ pub enum Production {
 }
 
 // A command after the opening: 02, shelve an item of this bare size; 03, how many bins are opened; 04, take out the item that the command of this
-// number shelved; 05, the commands after it belong to this production. (Sizes and numbers are of one width, so that a command is a kind and a number,
-// and the compiler keeps the two apart.)
+// number shelved; 05, the commands after it belong to this production; 06, shelve an item whose bare size is known to be within this range; 07, the item
+// that the command of this number, an 06, shelved has this bare size.
 pub enum Command {
     Shelve(u32),
     Count,
     Withdraw(u32),
     Switch(Production),
+    Reserve { least: u32, greatest: u32 },
+    Settle { named: u32, size: u32 },
 }
 
 // A row of the table that gives each command byte its operand width.
@@ -54,25 +56,30 @@ pub enum Width {
     Unknown,
 }
 
-// Why an item is refused: 8, 9, 10; and why none is taken out: 17.
+// Why an item is refused: 8 or in its place 19, 9, 10; why none is taken out: 17; and why none is settled: 20, 21.
 pub enum ItemReason {
     SizeZero,
     AboveCapacity,
     StockSpent,
     NotShelved,
+    RangeWrong,
+    NotReserved,
+    OutsideRange,
 }
 
 // What a command comes to: the bin of its item and the units that the item leaves free there, the number of bins opened, the bin that the item named
-// has left and the units that are then free there, the production that the commands after it belong to, or a refusal.
+// has left and the units that are then free there, the production that the commands after it belong to, the bin of the item that is settled and the units
+// that are then free there, or a refusal.
 pub enum Outcome {
     Placed { bin: u16, free: u32 },
     Counted(u16),
     Withdrawn { bin: u16, free: u32 },
     Switched(Production),
+    Settled { bin: u16, free: u32 },
     Refused(ItemReason),
 }
 
-// "An answer joins the command's number with placed, counted or refused", or withdrawn or switched.
+// "An answer joins the command's number with placed, counted or refused", or withdrawn, switched or settled.
 pub struct Answer {
     pub number: usize,
     pub outcome: Outcome,

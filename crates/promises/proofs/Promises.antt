@@ -5,7 +5,7 @@ use mathlib.Core.List.{List}
 use native.Mathlib.Omega.{arith}
 use Rattle.packing.specs.declared.{Opening.Opening, Production.Production, Command.Command}
 use Rattle.packing.specs.Streams.{accepted, verdict}
-use Rattle.packing.proofs.Theorems.{holds-answered, never-overfull, lowest-permitted, looks-taken, free-units, loads-add-up, withdrawals, stays, answers-in-range}
+use Rattle.packing.proofs.Theorems.{holds-answered, never-overfull, true-sizes-fit, lowest-permitted, looks-taken, free-units, loads-add-up, withdrawals, settlings, stays, answers-in-range}
 use Rattle.packing.proofs.Theorems.{opened, counts, productions}
 use Rattle.alike.proofs.LeftOut.{refused-left-out}
 use Rattle.alike.proofs.Storing.{by-stored-sizes}
@@ -25,6 +25,7 @@ module _ (stream : List ℕ) (words : ℕ) (o : Opening) (cs : List Command) (e 
         looks = looks-taken o cs;
         by-stored-sizes = by-stored-sizes o cs;
         withdrawals = withdrawals o cs;
+        settlings = settlings o cs;
         refused-left-out = refused-left-out o cs;
         none-sharper = exact-five-of-stream stream words o cs e;
       }
@@ -35,6 +36,7 @@ module _ (stream : List ℕ) (words : ℕ) (o : Opening) (cs : List Command) (e 
         opened = opened o q cs;
         holds-answered = holds-answered o q cs;
         never-overfull = never-overfull o q cs;
+        true-sizes-fit = true-sizes-fit o q cs;
         free-units = free-units o q cs;
         loads-add-up = loads-add-up o q cs;
         stays = stays o q cs;

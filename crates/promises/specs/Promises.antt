@@ -3,7 +3,7 @@
 use Rattle.packing.specs.Prelude.{ℕ, _≡_, List}
 use Rattle.packing.specs.declared.{Opening.Opening, Production.Production, Command.Command}
 use Rattle.packing.specs.Streams.{accepted, verdict}
-use Rattle.packing.specs.Claims.{HoldsAnswered, NeverOverfull, LowestPermitted, FreeUnits, Looks, LoadsAddUp, Withdrawals, Stays, AnswersInRange, Opened, Counts, Productions}
+use Rattle.packing.specs.Claims.{HoldsAnswered, NeverOverfull, TrueSizesFit, LowestPermitted, FreeUnits, Looks, LoadsAddUp, Withdrawals, Settlings, Stays, AnswersInRange, Opened, Counts, Productions}
 use Rattle.alike.specs.Claims.{ByStoredSizes, RefusedLeftOut}
 use Rattle.alike.specs.Independent.{IndependentStreams}
 use Rattle.worst_case.specs.OwnPlan.{OwnPlan}
@@ -25,6 +25,9 @@ pub record OfBoth (o : Opening) (cs : List Command) : Type 0 where
   pub by-stored-sizes : ByStoredSizes o cs
   -- A withdrawal is refused exactly when the item that it names is not on its production's shelf, and else answers the bin of that item.
   pub withdrawals : Withdrawals o cs
+  -- A settling is refused with 20 exactly when the item that it names is not an unsettled one of 06 on its production's shelf, and with 21 exactly when it is
+  -- and the size is outside its range; else it answers the bin of that item.
+  pub settlings : Settlings o cs
   -- Without the refused commands the others are answered as they were.
   pub refused-left-out : RefusedLeftOut o cs
   -- Whatever m is, 5 is the least constant that serves in demand 3.
@@ -38,9 +41,11 @@ pub record OfOne (o : Opening) (q : Production) (cs : List Command) : Type 0 whe
   pub holds-answered : HoldsAnswered o q cs
   -- No bin is overfull.
   pub never-overfull : NeverOverfull o q cs
-  -- The free units beside an answer are those of its bin, until an item goes there or leaves it.
+  -- Nor is one for any true sizes of the unsettled items within their ranges.
+  pub true-sizes-fit : TrueSizesFit o q cs
+  -- The free units beside an answer are those of its bin, until an item goes there, leaves it or is settled there.
   pub free-units : FreeUnits o q cs
-  -- The loads add up to the stored sizes still shelved.
+  -- The loads add up to the stored sizes still shelved, each as it is settled, or its greatest till then.
   pub loads-add-up : LoadsAddUp o q cs
   -- A bin keeps its number and class, and no B2 is uncounted.
   pub stays : Stays o q cs
@@ -48,8 +53,8 @@ pub record OfOne (o : Opening) (q : Production) (cs : List Command) : Type 0 whe
   pub answers-in-range : AnswersInRange o q cs
   -- The checker passes the plan of the items still shelved.
   pub own-plan-passes : OwnPlan o q cs
-  -- Demand 3: after each command up to which nothing of it was withdrawn, 3 times the number that it has opened is at most 5k + 15, for every plan of its
-  -- items that passes and uses k bins. With 12 it is point 7 of document 02, and with 5 the figure that holds.
+  -- Demand 3: after each command up to which nothing of it was withdrawn or settled, 3 times the number that it has opened is at most 5k + 15, for every plan
+  -- of its items that passes and uses k bins. With 12 it is point 7 of document 02, and with 5 the figure that holds.
   pub worst-case : WorstCase 15 o q cs
   pub sharper : WorstCase 12 o q cs
   pub sharpest : WorstCase 5 o q cs

@@ -1,4 +1,4 @@
--- Items at the front of a stream, one behind the other.
+-- Items of command 02 at the front of a stream, one behind the other.
 use mathlib.Core.Path.{_≡_}
 use mathlib.Core.List.{List}
 use Prim.Native.Nat.{ℕ, _+_, _*_, _≤_, _<_}

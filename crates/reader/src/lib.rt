@@ -57,7 +57,7 @@ pub fn behind_opening(stream: &[u8]) -> &[u8]
     &stream[begin..]
 }
 
-// The bytes of an item, its opcode with it.
+// The bytes of an item of 02, its opcode with it.
 fn item_length() -> usize
     ensures { λ r. ⌜ r ≡ itemLength ⌝ }
 {
@@ -65,7 +65,7 @@ fn item_length() -> usize
     width + 1
 }
 
-// How many whole items stand at the front of a stream, one behind the other, counted up to so many. Most commands are items, and these are passed
+// How many whole items of 02 stand at the front of a stream, one behind the other, counted up to so many. Most commands are such, and these are passed
 // without a question for the other opcodes.
 fn items_ahead(rest: &[u8], most: usize) -> usize
     ensures { λ r. ⌜ ItemsAhead (now (rest .entry)) most r ⌝ }

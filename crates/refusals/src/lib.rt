@@ -12,7 +12,7 @@ ghost use Rattle.packing.specs.Prelude.{_<?_, if_then_else_};
 ghost use Rattle.packing.specs.Productions.{productionNumber, productionOf};
 ghost use Rattle.packing.specs.Refusals.{itemNumber, streamNumber, planNumber, word, freeUnits, itemReason, outcomeOf};
 
-// The number of an answer's refusal: 8, 9 and 10 are document 01's, 17 is document 02's.
+// The number of an answer's refusal: 8, 9 and 10 are document 01's, 17 and 19 to 21 are document 02's.
 pub fn item_number(reason: ItemReason) -> u16
     ensures { λ r. ⌜ r ≡ itemNumber reason ⌝ }
 {
@@ -21,6 +21,9 @@ pub fn item_number(reason: ItemReason) -> u16
         ItemReason::AboveCapacity => 9,
         ItemReason::StockSpent => 10,
         ItemReason::NotShelved => 17,
+        ItemReason::RangeWrong => 19,
+        ItemReason::NotReserved => 20,
+        ItemReason::OutsideRange => 21,
     }
 }
 
@@ -73,6 +76,7 @@ pub fn word_of(outcome: Outcome) -> u16
         Outcome::Counted(opened) => opened,
         Outcome::Withdrawn { bin, free: _ } => bin,
         Outcome::Switched(production) => production_number(production),
+        Outcome::Settled { bin, free: _ } => bin,
         Outcome::Refused(reason) => {
             let number = item_number(reason);
             32768 + number
@@ -89,6 +93,7 @@ pub fn free_units_of(outcome: Outcome) -> u32
         Outcome::Counted(_) => 0,
         Outcome::Withdrawn { bin: _, free } => free,
         Outcome::Switched(_) => 0,
+        Outcome::Settled { bin: _, free } => free,
         Outcome::Refused(_) => 0,
     }
 }
@@ -101,7 +106,10 @@ fn item_reason(number: u16) -> ItemReason
         8 => ItemReason::SizeZero,
         9 => ItemReason::AboveCapacity,
         10 => ItemReason::StockSpent,
-        _ => ItemReason::NotShelved,
+        17 => ItemReason::NotShelved,
+        19 => ItemReason::RangeWrong,
+        20 => ItemReason::NotReserved,
+        _ => ItemReason::OutsideRange,
     }
 }
 
@@ -127,7 +135,7 @@ fn unless_refused(word: u16, named: Outcome) -> Outcome
 }
 
 // The outcome that an answer word and the free units beside it stand for: the command tells a bin's number from a count or a
-// production, and whether an item went there or left.
+// production, and whether an item went there, left or was settled there.
 pub fn outcome_of(command: Command, word: u16, free: u32) -> Outcome
     ensures { λ r. ⌜ r ≡ outcomeOf command word free ⌝ }
 {
@@ -139,5 +147,13 @@ pub fn outcome_of(command: Command, word: u16, free: u32) -> Outcome
             let production = production_of(word);
             Outcome::Switched(production)
         }
+        Command::Reserve {
+            least: _,
+            greatest: _,
+        } => unless_refused(word, Outcome::Placed { bin: word, free }),
+        Command::Settle { named: _, size: _ } => unless_refused(
+            word,
+            Outcome::Settled { bin: word, free },
+        ),
     }
 }

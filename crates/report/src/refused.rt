@@ -5,7 +5,7 @@ ghost use lib.ListN.{length};
 ghost use Rattle.text.specs.Writing.{AtFront};
 ghost use Rattle.report.specs.Lines.{refusal, overlong, mostOfARefusal};
 
-// A stream may have so many bytes.
+// A stream may have so many bytes. (4,096 items of 02 have fewer, as many of 06 more: the limit is the program's, and not the stream's.)
 pub const MOST_BYTES: usize = 32768;
 
 // The line of a refusal.

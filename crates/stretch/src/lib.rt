@@ -70,9 +70,6 @@ fn answer(
     ensures { λ r. ⌜ Done (terms .opening) (terms .left) (terms .shape) (store (now (trees .entry)) (now (ledger .entry)) (now (notes .entry)) counters) number command (r .answer) (r .looks .count) (store (now (trees .exit)) (now (ledger .exit)) (now (notes .exit)) (r .next)) ⌝ }
 {
     match command {
-        Command::Shelve(size) => {
-            engine::place(trees, ledger, notes, terms, counters, number, size)
-        }
         Command::Count => {
             let tally = ledger::count(ledger, terms.opening.stock);
             let figure = tally.figure;
@@ -84,6 +81,11 @@ fn answer(
         Command::Switch(production) => {
             engine::give(number, Outcome::Switched(production), counters, looks::NONE)
         }
+        Command::Settle { named, size } => {
+            settlement::settle(trees, ledger, notes, terms, counters, number, named, size)
+        }
+        // 02 and 06.
+        _ => engine::place(trees, ledger, notes, terms, counters, number, command),
     }
 }
 
@@ -124,6 +126,8 @@ pub fn answer_stretch(
         let front = fronts::accepted_front(rest);
         let command = front.command;
         let used = front.width + 1;
+        // Before the answer, so that it need not remember how long the command is.
+        rest = &rest[used..];
         let number = done + 1;
         let on = stays(production, command);
         let step = answer(trees, ledger, notes, terms, counters, number, command);
@@ -132,7 +136,6 @@ pub fn answer_stretch(
         counters = step.next;
         done = answer.number;
         looks = looks::larger(looks, step.looks);
-        rest = &rest[used..];
         if !on {
             return ended(counters, done, looks, commands.len() - rest.len());
         }

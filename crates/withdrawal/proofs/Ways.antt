@@ -2,10 +2,10 @@
 use mathlib.Core.Path.{_≡_, refl, sym, ap, _∙_}
 use mathlib.Core.Logic.{inr}
 use mathlib.Core.Bool.{true, false}
-use mathlib.Core.List.{List, []}
+use mathlib.Core.List.{List}
 use Prim.Native.Nat.{ℕ, suc, _-_, _≤_, _<_}
 use native.Mathlib.Omega.{arith}
-use lib.ListN.{set, List·getD-eq-default}
+use lib.ListN.{set}
 use Rattle.packing.specs.declared.{Opening.Opening}
 use Rattle.packing.specs.declared.Outcome.the-variants.{Withdrawn, Refused}
 use Rattle.packing.specs.declared.Command.the-variants.{Withdraw}
@@ -13,18 +13,18 @@ use Rattle.packing.specs.declared.ItemReason.the-variants.{NotShelved}
 use Rattle.packing.specs.Prelude.{any}
 use Rattle.packing.specs.Bins.{Packing, freeOn}
 use Rattle.packing.specs.Withdrawing.{holdsNamed, binHolding, without, withdrawal}
-use Rattle.packing.specs.Run.{item, next}
+use Rattle.packing.specs.Run.{next}
 use Rattle.packing.proofs.Tests.{clash}
 use Rattle.packing.proofs.Reached.{opened-without}
 use Rattle.tournament.specs.declared.Shape.{Shape}
 use Rattle.aim.specs.declared.Counters.{Counters}
 use Rattle.aim.specs.Aims.{withdrawing}
 use Rattle.ledger.specs.Rows.{places, rowAt, classIn, freeIn}
-use Rattle.ledger.specs.Notes.{numbers, unnoted, noteAt, binIn, sizeIn}
+use Rattle.ledger.specs.Notes.{numbers, unnoted, noteAt, binIn, sizeIn, notedItem}
 use Rattle.ledger.specs.Leaving.{Leavable, HasLeft}
 use Rattle.ledger.proofs.Entering.{oneA}
 use Rattle.ledger.proofs.Offering.{offers-most}
-use Rattle.ledger.proofs.Noting.{absent, present, noted-without}
+use Rattle.ledger.proofs.Noting.{absent, past-notes as none-past, present, bin-is, noted-without}
 use Rattle.ledger.proofs.Leaving.{can-leave, held-without, class-kept, class-good, free-then, records-without}
 use Rattle.index.specs.Shown.{Freed, Shown}
 use Rattle.index.proofs.Indexing.{indexes-set}
@@ -48,7 +48,7 @@ no-bin {o = o} {p = p} r named e = refused-as o p named (absent named (r .noted)
 
 -- A number past the notes.
 pub past-notes : {o : Opening} {s : Store} {p : Packing} → Represents o s p → (named : ℕ) → numbers ≤ named → withdrawal o p named ≡ Refused NotShelved
-past-notes {s = s} r named l = no-bin r named (ap binIn (List·getD-eq-default (s .notes) [] (omega (arith, r .noted .whole))))
+past-notes r named l = no-bin r named (none-past named (r .noted) l)
 
 -- The item lies in a bin.
 module _ {o : Opening} {shape : Shape} {named : ℕ} {t : List ℕ} {ledger notes : List (List ℕ)} {c : Counters} (h : Lies o shape named (store t ledger notes c)) where
@@ -69,14 +69,14 @@ module _ {o : Opening} {shape : Shape} {named : ℕ} {t : List ℕ} {ledger note
   pub inside : place < places
   inside = omega (arith, in-stock, h .sound .fitted .enough, h .sound .index .forest .few)
 
-  pub leavable : Leavable ledger place size (oneA o (item named size))
+  pub leavable : Leavable ledger place size (oneA o (notedItem named (noteAt notes named)))
   leavable = can-leave (h .sound .represents .records) (h .sound .represents .noted) named place there inside (h .sound .capacity)
 
   pub some-held : 1 ≤ c .items
   some-held = omega (arith, h .sound .represents .items, held-without (h .sound .represents .records) (h .sound .represents .noted) named place there inside)
 
   -- It has left its bin, and the row is shown.
-  module _ {row : List ℕ} {ledger′ : List (List ℕ)} (d : HasLeft ledger place size (oneA o (item named size)) row ledger′) where
+  module _ {row : List ℕ} {ledger′ : List (List ℕ)} (d : HasLeft ledger place size (oneA o (notedItem named (noteAt notes named))) row ledger′) where
     -- The row is that of a bin, and its place shows what was free before, if the tree of its class shows anything there.
     pub freed : Freed shape t place row
     freed =
@@ -96,7 +96,7 @@ module _ {o : Opening} {shape : Shape} {named : ℕ} {t : List ℕ} {ledger note
       modelled p r =
           let first = present named (r .noted) place there in
           let came = withdrawn-as o p named (first .some) in
-          let bin : binHolding named p ≡ suc place = ap suc (first .first) in
+          let bin = bin-is named (r .noted) place there in
           record {
             looked = refl;
             answered =

@@ -7,6 +7,7 @@ use ledger::BINS;
 use ledger::COLUMNS;
 use ledger::FREE;
 use ledger::NOTE_BIN;
+use ledger::NOTE_GREATEST;
 use ledger::NOTE_SIZE;
 use ledger::NOTE_WORDS;
 use ledger::NUMBERS;
@@ -19,7 +20,8 @@ ghost use Rattle.engine.specs.Store.{store, Sound};
 ghost use Rattle.engine.specs.Done.{Done};
 ghost use Rattle.withdrawal.specs.Lying.{Lies};
 
-// Takes out the item of a number that has one on the shelf, and answers the bin that it left, with the units that are then free there.
+// Takes out the item of a number that has one on the shelf, and answers the bin that it left, with the units that are then free there: those of the size
+// that counts then. Whether it is an A goes by the size that it was shelved by.
 fn take_out(
     trees: &mut [u32; ROW_WORDS],
     ledger: &mut [[u32; COLUMNS]; BINS],
@@ -37,7 +39,8 @@ fn take_out(
     let size = note[NOTE_SIZE];
     let bin = note[NOTE_BIN] as u16;
     let place = bin as usize - 1;
-    let a = aim::a_of(size, terms.opening.capacity);
+    let greatest = note[NOTE_GREATEST];
+    let a = aim::a_of(greatest, terms.opening.capacity);
     let next = aim::withdraw(counters);
     let row = ledger::leave(ledger, place, size, a);
     let none = [0u32; NOTE_WORDS];

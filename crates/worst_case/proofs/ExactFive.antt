@@ -16,7 +16,7 @@ use Rattle.packing.specs.SizeClasses.{sizeClass}
 use Rattle.packing.specs.Placing.{firstFit, put, decision, placed}
 use Rattle.packing.specs.Run.{runFrom, stepsOf}
 use Rattle.packing.specs.Plans.{planOf, limits, fault, entries, check}
-use Rattle.packing.specs.Compared.{acceptedSizes, numberOpened, noneOut, used}
+use Rattle.packing.specs.Compared.{acceptedSizes, numberOpened, noneAltered, used}
 use Rattle.worst_case.specs.ExactFive.{Least, ExactFive}
 use Rattle.packing.specs.Streams.{accepted, verdict}
 use Rattle.packing.proofs.Limits.{within-limits, limits-within, in-limits}
@@ -40,7 +40,7 @@ plan = planOf sizes (1 ∷ 1 ∷ 2 ∷ 2 ∷ 2 ∷ [])
 record Met (m : ℕ) : Type 0 where
   good : openingGood (opening m) ≡ true
   passes : check 11 2 plan (acceptedSizes (opening m) First cs) ≡ PlanResult.Passed
-  none : noneOut (opening m) First cs ≡ true
+  none : noneAltered (opening m) First cs ≡ true
   equal : 3 * numberOpened (opening m) First cs ≡ 5 * used plan + 5
 
 -- The one B2 is not an m-th.

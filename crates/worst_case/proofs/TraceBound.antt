@@ -1,6 +1,6 @@
--- The bound of a trace, which is of one production, in which nothing is taken out. From the empty packing it reaches one with the invariant. Its items
--- weigh what the items of any plan that passes weigh, so the bound of one packing applies. Every theorem that compares a packing with a plan is a
--- corollary.
+-- The bound of a trace, which is of one production, in which nothing is taken out and nothing is settled. From the empty packing it reaches one with the
+-- invariant. Its items weigh what the items of any plan that passes weigh, so the bound of one packing applies. Every theorem that compares a packing with
+-- a plan is a corollary.
 use Prim.Native.Nat.{ℕ, _+_, _*_, _≤_}
 use mathlib.Core.Path.{_≡_, sym, ap, _∙_}
 use mathlib.Core.Bool.{true, false}
@@ -8,12 +8,11 @@ use mathlib.Core.List.{List, [], map, map-map}
 use native.Mathlib.Omega.{arith}
 use Rattle.packing.specs.declared.{Opening.Opening, Entry.Entry, PlanResult.PlanResult}
 use Rattle.packing.specs.Prelude.{total, greatest, any}
-use Rattle.packing.specs.Refusals.{isWithdrawn}
 use Rattle.packing.specs.Limits.{openingGood}
 use Rattle.packing.specs.Bins.{Packing, empty}
 use Rattle.packing.specs.Run.{Step, entryOf, shelvedBy, entriesOf}
 use Rattle.packing.specs.Plans.{check}
-use Rattle.packing.specs.Compared.{used}
+use Rattle.packing.specs.Compared.{isAltered, used}
 use Rattle.packing.proofs.Limits.{in-limits}
 use Rattle.packing.proofs.Weights.{weightOf}
 use Rattle.packing.proofs.Moves.{Trace}
@@ -27,7 +26,7 @@ use Rattle.worst_case.proofs.FourClasses.{ofSize}
 use Rattle.worst_case.proofs.Invariant.{trace-invariant}
 use Rattle.worst_case.proofs.Bound.{Weighed, bound}
 
-module _ (o : Opening) {e : ℕ} {q : Packing} {ts : List Step} (r : Trace o 1 empty ts e q) (none : any (λ t. isWithdrawn (t .outcome)) ts ≡ false) where
+module _ (o : Opening) {e : ℕ} {q : Packing} {ts : List Step} (r : Trace o 1 empty ts e q) (none : any (λ t. isAltered (t .outcome)) ts ≡ false) where
   -- The sizes of the items that it places.
   abbrev sizes : List ℕ
   sizes = map (λ e. e .size) (entriesOf o ts)

@@ -5,13 +5,13 @@
 use Rattle.packing.specs.Prelude.{ℕ, _+_, _*_, _≤_, _≡_, true, List, take}
 use Rattle.packing.specs.declared.{Opening.Opening, Production.Production, Command.Command, Entry.Entry, PlanResult.PlanResult}
 use Rattle.packing.specs.Plans.{check}
-use Rattle.packing.specs.Compared.{acceptedSizes, numberOpened, noneOut, used}
+use Rattle.packing.specs.Compared.{acceptedSizes, numberOpened, noneAltered, used}
 
--- After the first j commands, if none of them is an accepted withdrawal of the production, and for every plan that the checker passes at the opening's
--- capacity, with whatever k, against the items that the production accepted by them: 3 times the number that it opened is at most 5 times the number of
--- bins that the plan uses, plus C. What the other production does in between, withdrawals too, is no matter.
+-- After the first j commands, if none of them is an accepted withdrawal or settling of the production, and for every plan that the checker passes at the
+-- opening's capacity, with whatever k, against the items that the production accepted by them, "by greatest sizes": 3 times the number that it opened is at
+-- most 5 times the number of bins that the plan uses, plus C. What the other production does in between, withdrawals and settlings too, is no matter.
 abbrev pub WorstCase : (C : ℕ) → Opening → Production → List Command → Type 0
 WorstCase C o q cs =
-    (j k : ℕ) (plan : List Entry) → noneOut o q (take j cs) ≡ true
+    (j k : ℕ) (plan : List Entry) → noneAltered o q (take j cs) ≡ true
     → check (o .capacity) k plan (acceptedSizes o q (take j cs)) ≡ PlanResult.Passed
     → 3 * numberOpened o q (take j cs) ≤ 5 * used plan + C

@@ -120,7 +120,7 @@ module _ (m k : ℕ) (good : mGood m ≡ true) (some : 1 ≤ k) (few : k ≤ sto
             stream-accepted (opening m) refl opening-good (worst k)
             (few-items k (front bins) (omega arith) each-good few-below few-above (passes-test .pairs));
         all-accepted = sent .all-accepted ∙ as-sent m (worst k);
-        none-out = ap not (sent .none-out);
+        none-altered = ap not (sent .none-altered);
         opens = sym (opened-is (opening m) First (map Shelve (worst k))) ∙ sent .all-opened;
         passes = plan-good;
         uses =

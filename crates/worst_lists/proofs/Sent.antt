@@ -1,4 +1,5 @@
--- Items that pass the test of Onward, sent as commands 02 without a trailer: all are accepted, none is taken out, and as many bins are opened as foretold.
+-- Items that pass the test of Onward, sent as commands 02 without a trailer: all are accepted, none is taken out or settled, and as many bins are opened as
+-- foretold.
 use Prim.Native.Nat.{ℕ, suc, _≤_}
 use mathlib.Core.Path.{_≡_, refl, sym, ap, subst, _∙_}
 use mathlib.Core.Bool.{Bool, true, false, _&&_, _||_}
@@ -11,12 +12,15 @@ use Rattle.packing.specs.declared.{Opening.Opening, SizeClass.SizeClass}
 use Rattle.packing.specs.declared.Production.the-variants.{First}
 use Rattle.packing.specs.declared.Command.the-variants.{Shelve}
 use Rattle.packing.specs.Prelude.{if_then_else_, any}
-use Rattle.packing.specs.Refusals.{isRefused, isWithdrawn}
+use Rattle.packing.specs.Refusals.{isRefused}
 use Rattle.packing.specs.Bins.{Item, Packing, empty, opened, stored, kind}
 use Rattle.packing.specs.Placing.{into, binFor, spent, decision, placed}
 use Rattle.packing.specs.Shelves.{Shelf, stockLeft}
-use Rattle.packing.specs.Run.{item, told, placement, next, runFrom, shelfFrom, stepsOf, entriesOf}
+use Rattle.packing.specs.Sending.{fault, itemOf}
+use Rattle.packing.specs.Run.{told, placement, next, runFrom, shelfFrom, stepsOf, entriesOf}
+use Rattle.packing.specs.Compared.{isAltered}
 use Rattle.packing.proofs.Tests.{both-true, each-cons}
+use Rattle.packing.proofs.Sending.{size-fault, size-some}
 use Rattle.packing.proofs.Decided.{IsPlaced, goes-in, decides}
 use Rattle.worst_lists.proofs.Onward.{Standing, passesBy, fitsLast, joins, opens, onward, Stands, passed, stands-join, join-not-spent, stands-open, open-not-spent}
 
@@ -29,25 +33,25 @@ module _ (o : Opening) (plain : o .trailer ≡ 0) (six : 6 ≤ o .m) (all : ℕ)
     pub all-opened : opened (shelfFrom o (alone p) n (map Shelve ss) .first) ≡ all
     pub all-accepted : map (λ e. e .size) (entriesOf o (stepsOf First (runFrom o (alone p) n (map Shelve ss)))) ≡ map (stored o) ss
     pub each-good : (s : ℕ) → List·Memᴰ s ss → (1 ≤ s) × (stored o s ≤ o .capacity)
-    pub none-out : any (λ t. isWithdrawn (t .outcome)) (stepsOf First (runFrom o (alone p) n (map Shelve ss))) ≡ false
+    pub none-altered : any (λ t. isAltered (t .outcome)) (stepsOf First (runFrom o (alone p) n (map Shelve ss))) ≡ false
 
   -- One item that is placed, with what is left of the stock, and then the others.
   module _ (s n : ℕ) (p : Packing) where
     abbrev it : Item
-    it = item n (stored o s)
+    it = itemOf o n (Shelve s)
 
     abbrev left : ℕ
     left = stockLeft o (alone p)
 
     -- All of it is left, since the other production has opened none.
-    is-placed : 1 ≤ it .size → it .size ≤ o .capacity → spent o p it (o .stock) ≡ false → IsPlaced o p it left s
+    is-placed : 1 ≤ it .size → it .size ≤ o .capacity → spent o p it (o .stock) ≡ false → IsPlaced o p it left (fault (Shelve s))
     is-placed some within room =
         let whole : left ≡ o .stock = omega arith in
-        record { some = omega (arith, plain); within-capacity = within; not-spent = ap (spent o p it) whole ∙ room }
+        record { faultless = size-fault s (omega (arith, plain)); within-capacity = within; not-spent = ap (spent o p it) whole ∙ room }
 
-    module _ (h : IsPlaced o p it left s) where
-      d : decision o p it left s ≡ into (binFor o p it)
-      d = decides o p it left s (into (binFor o p it)) (goes-in h)
+    module _ (h : IsPlaced o p it left (fault (Shelve s))) where
+      d : decision o p it left (fault (Shelve s)) ≡ into (binFor o p it)
+      d = decides o p it left (fault (Shelve s)) (into (binFor o p it)) (goes-in h)
 
       -- It leaves the packing with it.
       after : placed o p it ≡ next o left p n (Shelve s)
@@ -62,8 +66,8 @@ module _ (o : Opening) (plain : o .trailer ≡ 0) (six : 6 ≤ o .m) (all : ℕ)
             all-accepted =
                 ap (λ d. map (λ e. e .size) (placement o (Shelve s) (told o (placed o p it) d) ++ entriesOf o rest)) d
                 ∙ ap (λ sizes. stored o s ∷ sizes) (r .all-accepted);
-            each-good = each-cons (λ s. (1 ≤ s) × (stored o s ≤ o .capacity)) (h .some, h .within-capacity) (r .each-good);
-            none-out = ap (λ d. isWithdrawn (told o (placed o p it) d) || any (λ t. isWithdrawn (t .outcome)) rest) d ∙ r .none-out;
+            each-good = each-cons (λ s. (1 ≤ s) × (stored o s ≤ o .capacity)) (size-some s (h .faultless), h .within-capacity) (r .each-good);
+            none-altered = ap (λ d. isAltered (told o (placed o p it) d) || any (λ t. isAltered (t .outcome)) rest) d ∙ r .none-altered;
           }
 
   pub sent-from : (ss : List ℕ) (t : Standing) (p : Packing) (n : ℕ) → Stands o six all enough t p → onward (o .capacity) t (map (stored o) ss) ≡ true → Sent ss p n
@@ -73,7 +77,7 @@ module _ (o : Opening) (plain : o .trailer ≡ 0) (six : 6 ≤ o .m) (all : ℕ)
         all-opened = omega (arith, ap length (st .bins-are), length-append (st .earlier) (st .last), st .to-open, eqb-true (t .yet) 0 h);
         all-accepted = refl;
         each-good = λ s m. absurd (List·Memᴰ·not-nil m);
-        none-out = refl;
+        none-altered = refl;
       }
   sent-from (s ∷ ss) t p n st h =
       let a = both-true (passesBy c t (stored o s) k) _ h in

@@ -27,10 +27,13 @@ switched c =
     let a = c .before .before .before .before .before .args .answer in
     ap (lineOf (a .number)) (c .before .before .outcome4 .given .1) ∙ ap (λ n. line (code "S") (a .number ∷ n ∷ [])) (sym (c .production-number .ensures))
 
+settled : (c : tie.After-outcome5) → let a = c .before .before .before .args .answer in answerLine a ≡ line (code "F") (a .number ∷ c .outcome5 .given .0 .0 ∷ [])
+settled c = ap (lineOf (c .before .before .before .args .answer .number)) (c .outcome5 .given .1)
+
 refused : (c : tie.After-item-number) → let a = c .before .before .before .before .before .args .answer in answerLine a ≡ line (code "R") (a .number ∷ c .item-number .result ∷ [])
 refused c =
     let a = c .before .before .before .before .before .args .answer in
-    ap (lineOf (a .number)) (c .before .before .outcome5 .given .1) ∙ ap (λ n. line (code "R") (a .number ∷ n ∷ [])) (sym (c .item-number .ensures))
+    ap (lineOf (a .number)) (c .before .before .outcome6 .given .1) ∙ ap (λ n. line (code "R") (a .number ∷ n ∷ [])) (sym (c .item-number .ensures))
 
 enum-known-outcome : tie.Need-enum-known-outcome
 enum-known-outcome c = search needs
@@ -52,29 +55,17 @@ put-line-requires c κs =
 enum-known-outcome-2 : tie.Need-enum-known-outcome-2
 enum-known-outcome-2 c = search needs
 
-cast-opened : tie.Need-cast-opened
-cast-opened c = search needs
-
-slice-aggregate-put-line-2 : tie.Need-slice-aggregate-put-line-2
-slice-aggregate-put-line-2 c = search needs
-
-put-line-requires-2 : tie.Need-put-line-requires-2
-put-line-requires-2 c κs =
-    let o = c .before .before .before in
+put-pair-requires : tie.Need-put-pair-requires
+put-pair-requires c κs =
+    let o = c .before .before in
     rw (counted o) at (o .before .before .before .pre)
 
 enum-known-outcome-3 : tie.Need-enum-known-outcome-3
 enum-known-outcome-3 c = search needs
 
-cast-bin-2 : tie.Need-cast-bin-2
-cast-bin-2 c = search needs
-
-slice-aggregate-put-line-3 : tie.Need-slice-aggregate-put-line-3
-slice-aggregate-put-line-3 c = search needs
-
-put-line-requires-3 : tie.Need-put-line-requires-3
-put-line-requires-3 c κs =
-    let o = c .before .before .before in
+put-pair-requires-2 : tie.Need-put-pair-requires-2
+put-pair-requires-2 c κs =
+    let o = c .before .before in
     rw (withdrawn o) at (o .before .before .before .pre)
 
 enum-known-outcome-4 : tie.Need-enum-known-outcome-4
@@ -83,32 +74,28 @@ enum-known-outcome-4 c = search needs
 production-number-requires : tie.Need-production-number-requires
 production-number-requires c κs = search needs
 
-cast-production : tie.Need-cast-production
-cast-production c = search needs
-
-slice-aggregate-put-line-4 : tie.Need-slice-aggregate-put-line-4
-slice-aggregate-put-line-4 c = search needs
-
-put-line-requires-4 : tie.Need-put-line-requires-4
-put-line-requires-4 c κs =
-    let n = c .before .before in
+put-pair-requires-3 : tie.Need-put-pair-requires-3
+put-pair-requires-3 c κs =
+    let n = c .before in
     rw (switched n) at (n .before .before .before .before .before .pre)
 
 enum-known-outcome-5 : tie.Need-enum-known-outcome-5
 enum-known-outcome-5 c = search needs
 
+put-pair-requires-4 : tie.Need-put-pair-requires-4
+put-pair-requires-4 c κs =
+    let o = c .before .before in
+    rw (settled o) at (o .before .before .before .pre)
+
+enum-known-outcome-6 : tie.Need-enum-known-outcome-6
+enum-known-outcome-6 c = search needs
+
 item-number-requires : tie.Need-item-number-requires
 item-number-requires c κs = search needs
 
-cast-refusal : tie.Need-cast-refusal
-cast-refusal c = search needs
-
-slice-aggregate-put-line-5 : tie.Need-slice-aggregate-put-line-5
-slice-aggregate-put-line-5 c = search needs
-
-put-line-requires-5 : tie.Need-put-line-requires-5
-put-line-requires-5 c κs =
-    let n = c .before .before in
+put-pair-requires-5 : tie.Need-put-pair-requires-5
+put-pair-requires-5 c κs =
+    let n = c .before in
     rw (refused n) at (n .before .before .before .before .before .pre)
 
 same-length : tie.Need-same-length
@@ -125,7 +112,7 @@ same-length-2 c = search needs
 returns-2 : tie.Need-returns-2
 returns-2 c =
     let p = c .before .before in
-    rw (counted (p .before .before .before .before)) (p .put-line2 .ensures)
+    rw (counted (p .before .before .before)) (p .put-pair .ensures)
 
 same-length-3 : tie.Need-same-length-3
 same-length-3 c = search needs
@@ -133,7 +120,7 @@ same-length-3 c = search needs
 returns-3 : tie.Need-returns-3
 returns-3 c =
     let p = c .before .before in
-    rw (withdrawn (p .before .before .before .before)) (p .put-line3 .ensures)
+    rw (withdrawn (p .before .before .before)) (p .put-pair2 .ensures)
 
 same-length-4 : tie.Need-same-length-4
 same-length-4 c = search needs
@@ -141,7 +128,7 @@ same-length-4 c = search needs
 returns-4 : tie.Need-returns-4
 returns-4 c =
     let p = c .before .before in
-    rw (switched (p .before .before .before)) (p .put-line4 .ensures)
+    rw (switched (p .before .before)) (p .put-pair3 .ensures)
 
 same-length-5 : tie.Need-same-length-5
 same-length-5 c = search needs
@@ -149,12 +136,20 @@ same-length-5 c = search needs
 returns-5 : tie.Need-returns-5
 returns-5 c =
     let p = c .before .before in
-    rw (refused (p .before .before .before)) (p .put-line5 .ensures)
+    rw (settled (p .before .before .before)) (p .put-pair4 .ensures)
+
+same-length-6 : tie.Need-same-length-6
+same-length-6 c = search needs
+
+returns-6 : tie.Need-returns-6
+returns-6 c =
+    let p = c .before .before in
+    rw (refused (p .before .before)) (p .put-pair5 .ensures)
 
 pub put-answer-spec : {M : Type 1} → statement M
 put-answer-spec =
     tie.close
-    (tie.spec enum-known-outcome cast-bin cast-free slice-aggregate-put-line put-line-requires enum-known-outcome-2 cast-opened slice-aggregate-put-line-2
-    put-line-requires-2 enum-known-outcome-3 cast-bin-2 slice-aggregate-put-line-3 put-line-requires-3 enum-known-outcome-4 production-number-requires
-    cast-production slice-aggregate-put-line-4 put-line-requires-4 enum-known-outcome-5 item-number-requires cast-refusal slice-aggregate-put-line-5
-    put-line-requires-5 same-length returns same-length-2 returns-2 same-length-3 returns-3 same-length-4 returns-4 same-length-5 returns-5)
+    (tie.spec enum-known-outcome cast-bin cast-free slice-aggregate-put-line put-line-requires enum-known-outcome-2 put-pair-requires enum-known-outcome-3
+    put-pair-requires-2 enum-known-outcome-4 production-number-requires put-pair-requires-3 enum-known-outcome-5 put-pair-requires-4 enum-known-outcome-6
+    item-number-requires put-pair-requires-5 same-length returns same-length-2 returns-2 same-length-3 returns-3 same-length-4 returns-4 same-length-5
+    returns-5 same-length-6 returns-6)

@@ -1,72 +1,91 @@
--- `place` meets its contract: a size from 1 to the largest that a bin can hold is placed; of the others, 0 is refused first.
+-- `place` meets its contract: without a fault and up to the largest size that a bin can hold it is placed; else a fault is refused first, and then 9.
 use mathlib.Core.Path.{_≡_, sym, _∙_}
-use mathlib.Core.Bool.{true, false, false≢true}
-use Prim.Native.Nat.{ℕ, _-_, _<_}
-use native.Mathlib.Decide.{decLe}
+use Prim.Native.Nat.{_-_, _≤_, _<_}
 use native.Mathlib.Omega.{arith}
 use borrow.Author.Needs.{needs}
-use Rattle.packing.specs.declared.Opening.{Opening}
+use borrow.Author.Tests.{leb-true, leb-false}
+use Rattle.packing.specs.Prelude.{_≤?_}
 use Rattle.packing.specs.Bins.{stored}
-use Rattle.packing.specs.Limits.{within}
-use Rattle.packing.proofs.Limits.{within-limits, limits-within}
-use Rattle.packing.proofs.Looks.{looks-zero, looks-above}
-use Rattle.packing.proofs.Decided.{is-zero, is-above, decides}
-use Rattle.engine.proofs.Ways.{refused-so, done-refused}
+use Rattle.packing.specs.Sending.{sizeOf, fault, itemOf}
+use Rattle.packing.proofs.Tests.{both-true}
+use Rattle.packing.proofs.Sending.{sent-some}
+use Rattle.packing.proofs.Looks.{looks-faulty, looks-above}
+use Rattle.packing.proofs.Decided.{is-faulty, is-above, decides}
+use Rattle.sending.specs.Sent.{isFaultless, mayFit}
+use Rattle.sending.proofs.Sent.{no-fault, some-fault}
+use Rattle.engine.proofs.Ways.{refused-so, looks-so, done-refused}
 use Rattle.engine.proofs.place.Statement.{statement}
 use Rattle.engine.proofs.place.Tie as tie
 
--- A size that is not 0 and above the largest is above the capacity with its trailer.
-too-large : (o : Opening) (size : ℕ) → within 1 (o .capacity - o .trailer) size ≡ false → (size ≡ 0 → ⊥) → o .capacity < stored o size
-too-large o size w z = elim (decLe size (o .capacity - o .trailer)) [
-  | yes l ↦ absurd (false≢true (sym w ∙ limits-within 1 (o .capacity - o .trailer) size (omega (arith, z)) l))
-  | no l ↦ omega (arith, l)
-]
-
--- Where the size is tested.
-module _ (c : tie.After-is-within) where
+-- Where it is tested whether the item may fit.
+module _ (c : tie.After-may-fit) where
   abbrev start : tie.Start
   start = c .before .before
 
-  tested : within 1 (start .args .terms .opening .capacity - start .args .terms .opening .trailer) (start .args .size) ≡ c .is-within .result
-  tested = rw (← c .before .largest .ensures) (sym (c .is-within .ensures))
+  tested : mayFit (start .args .command) (start .args .terms .opening .capacity - start .args .terms .opening .trailer) ≡ c .may-fit .result
+  tested = rw (← c .before .largest .ensures) (sym (c .may-fit .ensures))
 
 largest-requires : tie.Need-largest-requires
 largest-requires c κs = search needs
 
-is-within-requires : tie.Need-is-within-requires
-is-within-requires c κs = search needs
+may-fit-requires : tie.Need-may-fit-requires
+may-fit-requires c κs = search needs
 
 place-fitting-requires : tie.Need-place-fitting-requires
 place-fitting-requires c κs =
-    let within = c .before .before .before in
-    let size = within-limits 1 _ _ (tested (within .before) ∙ within .if1 .taken) in
-    (start (within .before) .pre, (size .0, omega (arith, size .0, size .1)))
+    let fitting = c .before .before .before in
+    let sent = start (fitting .before) in
+    let o = sent .args .terms .opening in
+    let command = sent .args .command in
+    let both = both-true (isFaultless (fault command)) (sizeOf command ≤? (o .capacity - o .trailer)) (tested (fitting .before) ∙ fitting .if1 .taken) in
+    let good = no-fault command (both .0) in
+    record {
+      ready = sent .pre .0;
+      sends = sent .pre .1;
+      faultless = good;
+      fits = omega (arith, sent-some command (sent .pre .1) good, leb-true (sizeOf command) (o .capacity - o .trailer) (both .1));
+    }
 
 returns : tie.Need-returns
 returns c = search needs
+
+faultless-requires : tie.Need-faultless-requires
+faultless-requires c κs = search needs
 
 refuse-requires : tie.Need-refuse-requires
 refuse-requires c κs = search needs
 
 returns-2 : tie.Need-returns-2
 returns-2 c =
-    let below = c .before .before in
+    let asked = c .before .before in
+    let fitting = asked .before in
+    let sent = start (fitting .before) in
+    let o = sent .args .terms .opening in
+    let command = sent .args .command in
+    let whole = sym (asked .faultless .ensures) ∙ c .before .if2 .taken in
+    let larger : o .capacity < stored o (sizeOf command) =
+    omega (arith, leb-false (sizeOf command) (o .capacity - o .trailer) (rw whole at (tested (fitting .before) ∙ fitting .if1 .left))) in
     rw (c .refuse .ensures)
-    (done-refused (start (below .before) .pre .sound) (λ p r. refused-so _ _ p _ _ (decides _ p _ _ _ _ (is-zero (c .before .if2 .taken)))) (λ p r. sym (looks-zero _ p _ _ (c .before .if2 .taken))))
+    (done-refused (sent .pre .0 .sound) (λ p r. refused-so o _ p _ command (sent .pre .1) (decides o p _ _ (fault command) _ (is-above (no-fault command whole) larger)))
+    (λ p r. looks-so o p _ command (sent .pre .1) (looks-above o p (itemOf o (sent .args .number) command) (fault command) larger)))
+
+fault-of-requires : tie.Need-fault-of-requires
+fault-of-requires c κs = search needs
 
 refuse-requires-2 : tie.Need-refuse-requires-2
 refuse-requires-2 c κs = search needs
 
 returns-3 : tie.Need-returns-3
 returns-3 c =
-    let above = c .before .before in
-    let some = c .before .if2 .left in
-    let larger = too-large (start (above .before) .args .terms .opening) _ (tested (above .before) ∙ above .if1 .left) some in
+    let sent = start (c .before .before .before .before .before) in
+    let o = sent .args .terms .opening in
+    let command = sent .args .command in
+    let why = c .before .fault-of .ensures in
     rw (c .refuse2 .ensures)
-    (done-refused (start (above .before) .pre .sound) (λ p r. refused-so _ _ p _ _ (decides _ p _ _ _ _ (is-above (omega (arith, some)) larger)))
-    (λ p r. sym (looks-above _ p _ _ larger)))
+    (done-refused (sent .pre .0 .sound) (λ p r. refused-so o _ p _ command (sent .pre .1) (decides o p _ _ (fault command) _ (is-faulty _ why)))
+    (λ p r. looks-so o p _ command (sent .pre .1) (looks-faulty o p (itemOf o (sent .args .number) command) (fault command) (some-fault command why))))
 
 pub place-spec : {M : Type 1} → statement M
 place-spec =
     tie.close
-    (tie.spec largest-requires is-within-requires place-fitting-requires returns refuse-requires returns-2 refuse-requires-2 returns-3)
+    (tie.spec largest-requires may-fit-requires place-fitting-requires returns faultless-requires refuse-requires returns-2 fault-of-requires refuse-requires-2 returns-3)

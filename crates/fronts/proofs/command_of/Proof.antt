@@ -1,22 +1,18 @@
 -- `command_of` meets its contract: the operand that the table gives an opcode stands behind it.
 use mathlib.Core.Path.{_≡_, ap}
 use mathlib.Core.List.{List}
-use Prim.Native.Nat.{ℕ}
+use Prim.Native.Nat.{ℕ, _≤_}
 use native.Mathlib.Omega.{arith}
 use borrow.Author.Needs.{needs}
 use borrow.Author.Tests.{eq-eqb, ne-eqb}
-use Rattle.packing.specs.declared.{Command.Command, Production.Production}
+use Rattle.packing.specs.declared.{Production.Production}
 use Rattle.packing.specs.declared.Command.the-variants.{Shelve, Withdraw, Switch, Count}
 use Rattle.packing.specs.Productions.{productionOf}
 use Rattle.packing.specs.Streams.{widths, lookup, operand}
-use Rattle.fronts.specs.declared.{WholeCommand.WholeCommand}
 use Rattle.fronts.specs.Fronts.{tableWidth, CommandThere, commandWith}
-use Rattle.fronts.proofs.Commands.{only-count}
+use Rattle.fronts.proofs.Commands.{with, from-2}
 use Rattle.fronts.proofs.command_of.Statement.{statement}
 use Rattle.fronts.proofs.command_of.Tie as tie
-
-abbrev with : Command → ℕ → WholeCommand
-with c width = record { command = c; width = width }
 
 -- An item, a withdrawal, the production of the commands after it and a count, each with the width of its opcode.
 module _ (opcode : ℕ) (s : List ℕ) where
@@ -30,10 +26,11 @@ module _ (opcode : ℕ) (s : List ℕ) where
       → width ≡ tableWidth 5 → with (Switch r) width ≡ commandWith opcode s
   is-switch number width r z y e f p g = rw (ne-eqb opcode 2 z, ne-eqb opcode 4 y, eq-eqb opcode 5 e, p, f, g, ap tableWidth e)
 
-  is-count : (width : ℕ) → CommandThere opcode s → (opcode ≡ 2 → ⊥) → (opcode ≡ 4 → ⊥) → (opcode ≡ 5 → ⊥) → width ≡ tableWidth 3
+  is-count : (width : ℕ) → CommandThere opcode s → (opcode ≡ 2 → ⊥) → (opcode ≡ 4 → ⊥) → (opcode ≡ 5 → ⊥) → opcode ≤ 5 → width ≡ tableWidth 3
       → with Count width ≡ commandWith opcode s
-  is-count width there z y x g =
-      rw (ne-eqb opcode 2 z, ne-eqb opcode 4 y, ne-eqb opcode 5 x, g, ap tableWidth (only-count opcode _ (there .in-table) (there .no-opening) z y x))
+  is-count width there z y x w g =
+      let count : opcode ≡ 3 = omega (arith, from-2 opcode _ (there .in-table) (there .no-opening)) in
+      rw (ne-eqb opcode 2 z, ne-eqb opcode 4 y, ne-eqb opcode 5 x, ne-eqb opcode 6 (λ e. omega arith), ne-eqb opcode 7 (λ e. omega arith), g, ap tableWidth count)
 
 operand-requires : tie.Need-operand-requires
 unfolding widths lookup
@@ -74,17 +71,24 @@ returns-3 c =
     is-switch _ (other .before .before .before .args .rest .now) _ _ _ (other .before .if1 .left) (other .if2 .left) (there .if3 .taken)
     (c .before .before .operand3 .ensures .value) (c .before .production-of .ensures) (c .table-width3 .ensures)
 
+two-operands-of-requires : tie.Need-two-operands-of-requires
+two-operands-of-requires c κs = record { there = c .before .before .before .before .before .pre; above-5 = c .if4 .taken }
+
+returns-4 : tie.Need-returns-4
+returns-4 c = c .two-operands-of .ensures
+
 table-width-requires-4 : tie.Need-table-width-requires-4
 table-width-requires-4 c κs = search needs
 
-returns-4 : tie.Need-returns-4
-returns-4 c =
-    let other = c .before .before in
+returns-5 : tie.Need-returns-5
+returns-5 c =
+    let last = c .before .before in
+    let other = last .before in
     let start = other .before .before .before in
-    is-count _ (start .args .rest .now) _ (start .pre) (other .before .if1 .left) (other .if2 .left) (c .before .if3 .left) (c .table-width4 .ensures)
+    is-count _ (start .args .rest .now) _ (start .pre) (other .before .if1 .left) (other .if2 .left) (last .if3 .left) (c .before .if4 .left) (c .table-width4 .ensures)
 
 pub command-of-spec : {M : Type 1} → statement M
 command-of-spec =
     tie.close
     (tie.spec operand-requires table-width-requires returns operand-requires-2 table-width-requires-2 returns-2
-    operand-requires-3 production-of-requires table-width-requires-3 returns-3 table-width-requires-4 returns-4)
+    operand-requires-3 production-of-requires table-width-requires-3 returns-3 two-operands-of-requires returns-4 table-width-requires-4 returns-5)

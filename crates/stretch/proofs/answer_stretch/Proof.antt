@@ -1,10 +1,10 @@
 -- `answer_stretch` meets its contract. The invariant: every run that had come so far at the beginning has come further, in the same production
 -- (Stretching). The measure is the length of the rest.
-use mathlib.Core.Path.{_≡_, sym, _∙_}
+use mathlib.Core.Path.{_≡_, sym, ap, _∙_}
 use mathlib.Core.List.{List}
-use Prim.Native.Nat.{ℕ, _+_, _≤_}
+use Prim.Native.Nat.{ℕ, _+_, _-_, _≤_}
 use native.Mathlib.Omega.{arith}
-use lib.ListN.{length}
+use lib.ListN.{length, take, drop, length-drop}
 use borrow.Author.Needs.{needs}
 use borrow.Author.Tests.{not-true, not-false}
 use Rattle.packing.specs.declared.{Command.Command}
@@ -56,7 +56,7 @@ module _ (c : tie.After-write-words Inv-loop μ-loop) where
   answered = c .before .before .before .before
 
   abbrev read : tie.After-accepted-front Inv-loop μ-loop
-  read = answered .before .before .before .before .before .before
+  read = answered .before .before .before .before .before .before .before
 
   -- The rows keep their lengths.
   same-words : length (c .write-words .last .0) ≡ length (turn read .before .before .before .before .args .answers .now)
@@ -81,52 +81,55 @@ accepted-front-requires c κs = stretching-whole (c .before .loop .inv) (c .loop
 add-used : tie.Need-add-used Inv-loop μ-loop
 add-used c = omega (arith, inside (c .before), no-more (c .before))
 
+sub-rest : tie.Need-sub-rest Inv-loop μ-loop
+sub-rest c = inside (c .before)
+
+part-rest-start : tie.Need-part-rest-start Inv-loop μ-loop
+part-rest-start c = omega (arith, inside (c .before))
+
+part-rest-end : tie.Need-part-rest-end Inv-loop μ-loop
+part-rest-end c = search needs
+
 add-number : tie.Need-add-number Inv-loop μ-loop
-add-number c = omega (arith, stretching-few (turn (c .before) .loop .inv))
+add-number c = omega (arith, stretching-few (turn (c .before .before) .loop .inv))
 
 stays-requires : tie.Need-stays-requires Inv-loop μ-loop
 stays-requires c κs = search needs
 
 answer-requires : tie.Need-answer-requires Inv-loop μ-loop
 answer-requires c κs =
-    let front-read = c .before .before .before .before .before in
+    let front-read = c .before .before .before .before .before .before in
     stretching-ready (turn front-read .loop .inv) (command front-read) (width front-read) (front front-read)
 
 write-words-requires : tie.Need-write-words-requires Inv-loop μ-loop
 write-words-requires c κs =
     let a = c .before .before .before in
-    let f = a .before .before .before .before .before .before in
+    let f = a .before .before .before .before .before .before .before in
     stretching-word (turn f .loop .inv) (command f) (width f) (front f) _ (a .answer .ensures .numbered)
 
 larger-requires : tie.Need-larger-requires Inv-loop μ-loop
 larger-requires c κs = search needs
 
-sub-rest : tie.Need-sub-rest Inv-loop μ-loop
-sub-rest c = inside (last c)
-
-part-rest-start : tie.Need-part-rest-start Inv-loop μ-loop
-part-rest-start c = omega (arith, inside (last c))
-
-part-rest-end : tie.Need-part-rest-end Inv-loop μ-loop
-part-rest-end c = search needs
-
 sub-ended : tie.Need-sub-ended Inv-loop μ-loop
 sub-ended c =
-    let f = last (c .before .before) in
-    omega (arith, inside f, no-more f)
+    let f = last (c .before) in
+    let behind = drop (width f + 1) (rest f) in
+    let fewer : length (take (length (rest f) - (width f + 1)) behind) ≤ length (turn f .before .before .before .before .args .commands .now) =
+    omega (arith, ap length (part-is (rest f) (width f + 1) (inside f)), length-drop (width f + 1) (rest f), no-more f) in
+    fewer
 
 ended-requires : tie.Need-ended-requires Inv-loop μ-loop
 ended-requires c κs = search needs
 
 same-length : tie.Need-same-length Inv-loop μ-loop
-same-length c = same-words (worded (c .before .before .before))
+same-length c = same-words (worded (c .before .before))
 
 same-length-2 : tie.Need-same-length-2 Inv-loop μ-loop
-same-length-2 c = same-free (worded (c .before .before .before))
+same-length-2 c = same-free (worded (c .before .before))
 
 returns : tie.Need-returns Inv-loop μ-loop
 returns c =
-    let all = c .before .before .before in
+    let all = c .before .before in
     let w = worded all in
     let f = read w in
     rw (c .ended .ensures)
@@ -134,11 +137,11 @@ returns c =
     (part-is (rest f) (width f + 1) (inside f)) (sym (not-true _ (c .before .if1 .taken)) ∙ answered w .before .before .before .before .stays .ensures))
 
 loop-less : tie.Need-loop-less Inv-loop μ-loop
-loop-less c = omega (arith, inside (last (c .before .before)))
+loop-less c = omega (arith, inside (last (c .before)))
 
 loop-again : tie.Need-loop-again Inv-loop μ-loop
 loop-again c =
-    let all = c .before .before in
+    let all = c .before in
     let w = worded all in
     let f = read w in
     stretching-next (turn f .loop .inv) (command f) (width f) (front f) _ _ _ _ _ _ _ (answered w .answer .ensures) (w .write-words .ensures) (all .larger .ensures)
@@ -159,5 +162,5 @@ returns-2 c = rw (c .ended2 .ensures) (stretching-end (c .before .before .loop .
 pub answer-stretch-spec : {M : Type 1} → statement M
 answer-stretch-spec =
     tie.close
-    (tie.spec Inv-loop μ-loop loop-holds accepted-front-requires add-used add-number stays-requires answer-requires write-words-requires larger-requires sub-rest
-    part-rest-start part-rest-end sub-ended ended-requires same-length same-length-2 returns loop-less loop-again ended-requires-2 same-length-3 same-length-4 returns-2)
+    (tie.spec Inv-loop μ-loop loop-holds accepted-front-requires add-used sub-rest part-rest-start part-rest-end add-number stays-requires answer-requires write-words-requires larger-requires
+    sub-ended ended-requires same-length same-length-2 returns loop-less loop-again ended-requires-2 same-length-3 same-length-4 returns-2)

@@ -11,7 +11,7 @@ use types.Run.{OneOf}
 use Rattle.packing.specs.declared.Production.{Production}
 use Rattle.packing.specs.declared.Production.the-variants.{First, Second}
 use Rattle.packing.specs.declared.{Command.Command}
-use Rattle.packing.specs.declared.Command.the-variants.{Shelve, Count, Withdraw, Switch}
+use Rattle.packing.specs.declared.Command.the-variants.{Shelve, Count, Withdraw, Switch, Reserve, Settle}
 use Rattle.packing.proofs.Command.{the-type}
 use Rattle.packing.specs.Productions.{isSame, productionNumber}
 use Rattle.packing.specs.Shelves.{belonging}
@@ -26,11 +26,14 @@ by-number Second First = refl
 by-number Second Second = refl
 
 -- The tags of the commands other than 05.
-still : (q : Production) (c : Command) → OneOf (0 ∷ 1 ∷ 2 ∷ []) (tagOf the-type c) → true ≡ isSame q (belonging q c)
+still : (q : Production) (c : Command) → OneOf (0 ∷ 1 ∷ 2 ∷ 4 ∷ 5 ∷ []) (tagOf the-type c) → true ≡ isSame q (belonging q c)
 still q (Shelve size) k = sym (same-self q)
 still q Count k = sym (same-self q)
 still q (Withdraw named) k = sym (same-self q)
-still q (Switch r) k = absurd (⊎-elim (λ e. omega (arith, e)) (λ l. ⊎-elim (λ e. omega (arith, e)) (λ e. omega (arith, e)) l) k)
+still q (Switch r) k =
+    absurd (⊎-elim (λ e. omega (arith, e)) (⊎-elim (λ e. omega (arith, e)) (⊎-elim (λ e. omega (arith, e)) (⊎-elim (λ e. omega (arith, e)) (λ e. omega (arith, e))))) k)
+still q (Reserve least greatest) k = sym (same-self q)
+still q (Settle named size) k = sym (same-self q)
 
 enum-known-command : tie.Need-enum-known-command
 enum-known-command c = search needs

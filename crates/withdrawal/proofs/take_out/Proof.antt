@@ -33,6 +33,9 @@ cast-place c = omega (arith, few (c .before))
 sub-place : tie.Need-sub-place
 sub-place c = omega (arith, c .before .pre .in-a-bin)
 
+array-read-greatest : tie.Need-array-read-greatest
+array-read-greatest c = search needs
+
 a-of-requires : tie.Need-a-of-requires
 a-of-requires c κs = search needs
 
@@ -80,6 +83,7 @@ take-out-spec =
     cast-bin
     cast-place
     sub-place
+    array-read-greatest
     a-of-requires
     withdraw-requires
     leave-requires

@@ -1,0 +1,2 @@
+-- What is told of a command that shelves an item.
+pub mod Sent

@@ -1,0 +1,2 @@
+-- Why a settling follows the model.
+pub mod Ways

@@ -1,0 +1,2 @@
+-- An item that waits for its size, by its note.
+pub mod Waiting
