@@ -5,9 +5,6 @@ use Rattle.report.proofs.Texts.{print-inside, print-length}
 use Rattle.stream_cases.proofs.show.Statement.{statement}
 use Rattle.stream_cases.proofs.show.Tie as tie
 
-write-all-requires : tie.Need-write-all-requires
-write-all-requires c κs = search needs
-
 print-requires : tie.Need-print-requires
 print-requires c κs = search needs
 
@@ -17,8 +14,8 @@ array-share-prefix-out c = print-inside (printed _) _ _ _ (c .print .ensures)
 slice-aggregate-write-all : tie.Need-slice-aggregate-write-all
 slice-aggregate-write-all c = print-length (printed _) _ _ _ (c .before .print .ensures)
 
-write-all-requires-2 : tie.Need-write-all-requires-2
-write-all-requires-2 c κs = search needs
+write-all-requires : tie.Need-write-all-requires
+write-all-requires c κs = search needs
 
 returns : tie.Need-returns
 returns c = search needs
@@ -26,4 +23,4 @@ returns c = search needs
 pub show-spec : {M : Type 1} → statement M
 show-spec =
     tie.close
-    (tie.spec write-all-requires print-requires array-share-prefix-out slice-aggregate-write-all write-all-requires-2 returns)
+    (tie.spec print-requires array-share-prefix-out slice-aggregate-write-all write-all-requires returns)
