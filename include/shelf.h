@@ -5,7 +5,7 @@
  *
  * Link with libshelf.a, for x86-64 Linux: `rt staticlib shelf` proves the
  * library and writes target/staticlib/libshelf.a. A call allocates nothing; allow
- * it 128 KB of stack (shelf_stream), 160 KB (shelf_sheet) or 17 KB
+ * it 192 KB of stack (shelf_stream), 216 KB (shelf_sheet) or 17 KB
  * (shelf_check_plan).
  *
  * The calls are total: every input within the rules on pointers below has the
@@ -30,7 +30,7 @@
  * a row, a result or a refusal is added or changes. Header and libshelf.a must
  * be of one version: nothing checks it.
  */
-#define SHELF_VERSION 6
+#define SHELF_VERSION 7
 
 /*
  * Limits. Capacity, stock and sizes are at least 1; the trailer, and what is
@@ -72,7 +72,12 @@ enum {
     /* Of a withdrawal. */
     SHELF_REFUSAL_NOT_SHELVED = 17,
     /* Of a stream again. */
-    SHELF_REFUSAL_NO_SUCH_PRODUCTION = 18
+    SHELF_REFUSAL_NO_SUCH_PRODUCTION = 18,
+    /* Of one master with a range, in place of 8. */
+    SHELF_REFUSAL_RANGE_WRONG = 19,
+    /* Of a settling. */
+    SHELF_REFUSAL_NOT_RESERVED = 20,
+    SHELF_REFUSAL_OUTSIDE_RANGE = 21
 };
 
 #ifdef __cplusplus
@@ -90,6 +95,9 @@ extern "C" {
  *                  03                                         count cartridges
  *                  04  command number (2 bytes)               take a master out
  *                  05  production (1 byte), 0 or 1            switch to it
+ *                  06  least (4 bytes), greatest (4)          shelve a master whose
+ *                                                             size is in this range
+ *                  07  command number (2 bytes), size (4)     settle its size
  *              The first command is an opening, of either kind, and there is no
  *              other. The commands after it are numbered from 1.
  * answers      answers_len words.
@@ -99,7 +107,15 @@ extern "C" {
  * a stream opened with 01 has a trailer of 0. A master's stored size is its size
  * plus the trailer, exact also where it passes 32 bits. That is what the master
  * takes up: where it goes and whether it fits, a cartridge's load and its free
- * units all go by stored sizes. Only the refusal of a size of 0 does not.
+ * units all go by stored sizes. Only refusals 8, 19 and 21 do not: they go by sizes
+ * as they are sent.
+ *
+ * A master of 06 is shelved by its greatest size, and takes up that until a 07 names
+ * it and tells its size. From then on it takes up its own; its class, its cartridge
+ * and the class of that stay as they are. A settled A is still an A, and an A goes to
+ * any cartridge of class 1 with space, so that several may come to lie on one.
+ * Whatever sizes within their ranges the masters not yet settled turn out to have, no
+ * cartridge holds more than the capacity.
  *
  * Two productions draw on the stock. The commands after a 05 belong to the one
  * that it names, until the next 05; a stream starts in production 0. Each has its
@@ -120,10 +136,10 @@ extern "C" {
  * root, and while the master fits, of the left half of each level, until one
  * cartridge is left. So a search takes 1 look if no permitted cartridge has space
  * (the master then opens a new one, or is refused with 10), and otherwise
- * shelf_most_looks(stock); it never takes more. Each master makes one search, but
- * for those refused with 8 or 9, and no other command makes any. The figure is the
- * largest over the searches of both productions, not their sum, and 0 if none was
- * made.
+ * shelf_most_looks(stock); it never takes more. Each master, of 02 or 06, makes one
+ * search, but for those refused with 8, 9 or 19, and no other command makes any. The
+ * figure is the largest over the searches of both productions, not their sum, and 0
+ * if none was made.
  *
  * answers[n - 1] holds the answer to command n, where cartridges and masters are
  * those of its production:
@@ -139,17 +155,31 @@ extern "C" {
  *     to 04   the number of the cartridge that the master left, which is the
  *             answer to the command named; or
  *             32768 + 17   no master of that number is on the shelf: the command
- *                          named is not an earlier 02, or was refused, or its
- *                          master is out already or the other production's
+ *                          named is not an earlier 02 or 06, or was refused, or
+ *                          its master is out already or the other production's
  *             and then the shelf is as it was, and the stream goes on. An
  *             emptied cartridge stays opened, keeps its number and class, and is
  *             chosen like any other of its class.
  *     to 05   the production, 0 or 1, also if it is the one already
+ *     to 06   as to 02, by the greatest size, but in place of 8
+ *             32768 + 19   the least, without the trailer, is 0 or above the
+ *                          greatest
+ *             comes first, and then 9 and 10
+ *     to 07   the number of the cartridge the master lies in, which is the answer
+ *             to the command named; or
+ *             32768 + 20   no master of that number waits to be settled: the
+ *                          command named is not an earlier 06, or was refused, or
+ *                          its master is out, settled already or the other
+ *                          production's
+ *             32768 + 21   the size is below the least or above the greatest that
+ *                          the command named gave, all without the trailer
+ *             of these the first that applies, and then the shelf is as it was,
+ *             and the stream goes on
  * free_units[n - 1] holds, where command n is answered by a master's cartridge,
  * the units free on that cartridge just after the command, with the master on it
- * (02) or without (04): the capacity less the cartridge's load then. For a
- * refused command, and for 03 and 05, it holds 0. Words past the last command
- * are untouched, in either row.
+ * (02, 06 and 07) or without (04): the capacity less the cartridge's load then. For
+ * a refused command, and for 03 and 05, it holds 0. Words past the last command are
+ * untouched, in either row.
  *
  * If the stream is refused, the result is
  *     2^63 + number * 2^32 + offset
@@ -158,7 +188,7 @@ extern "C" {
  *     number  offset                    condition
  *     1       0                         the stream is empty, or its first byte
  *                                       is neither 01 nor 11
- *     2       of the command byte       the byte is none of 01 to 05 and 11
+ *     2       of the command byte       the byte is none of 01 to 07 and 11
  *     3       of the command byte       operands cut short by the stream's end
  *     4       of the command byte       a second opening, of either kind, cut
  *                                       short or not
@@ -201,20 +231,21 @@ uint64_t shelf_stream(const uint8_t *stream, size_t stream_len,
  * production starts a page with its cartridge 1; one that opened nothing has no
  * line. No line names the production: where only one has lines, the answers tell
  * which. Load and masters held are of the masters still shelved: the loads add up
- * to the stored sizes of these.
+ * to the stored sizes of these, as settled, or the greatest till then.
  *
  * Where there is no sheet, the text is one line, not filled up:
  *     X number offset     the stream is refused, as by shelf_stream with rows of
  *                         4096 words, so never with 7
- *     L 32768             stream_len is above 32768, whatever the bytes are
+ *     L 32768             stream_len is above 32768, whatever the bytes are;
+ *                         shelf_stream takes longer ones
  */
 uint64_t shelf_sheet(const uint8_t *stream, size_t stream_len, uint8_t *sheet);
 
 /*
  * Checks that a plan packs the given masters, in their order, into cartridges
  * numbered 1 to k. Nothing is written. Sizes are taken as they are given: those
- * of a shelf's own masters, in the plan and in the list, must be stored sizes.
- * Each production has a plan of its own.
+ * of a shelf's own masters, in the plan and in the list, must be stored sizes, as
+ * settled, or the greatest till then. Each production has a plan of its own.
  *
  * sizes, bins  the plan: entry i is the size sizes[i] in the cartridge bins[i],
  *              for i below the lesser of sizes_len and bins_len. Elements that
@@ -308,10 +339,11 @@ static inline uint32_t shelf_most_looks(uint32_t stock)
 
 /*
  * The most cartridges that a production ever opens of which no master was taken
- * out, where a plan of its masters, by stored sizes, that shelf_check_plan passes
- * uses k cartridges: three times their number is at most 5k + 5. For every k from
- * 1 to SHELF_MAX_STOCK and every m there is a stream that opens so many, with a
- * stock of SHELF_MAX_STOCK. Of a smaller stock no more than that are opened.
+ * out or settled, where a plan of its masters, by stored sizes (the greatest, of a
+ * master of 06), that shelf_check_plan passes uses k cartridges: three times their
+ * number is at most 5k + 5. For every k from 1 to SHELF_MAX_STOCK and every m there
+ * is a stream that opens so many, with a stock of SHELF_MAX_STOCK. Of a smaller
+ * stock no more than that are opened.
  */
 static inline uint32_t shelf_most_opened(uint32_t k)
 {
@@ -376,6 +408,12 @@ static inline const char *shelf_refusal_name(uint32_t number)
         return "no master of that number is on the shelf";
     case SHELF_REFUSAL_NO_SUCH_PRODUCTION:
         return "no production has that number";
+    case SHELF_REFUSAL_RANGE_WRONG:
+        return "the least size is 0 or above the greatest";
+    case SHELF_REFUSAL_NOT_RESERVED:
+        return "no master of that number waits to be settled";
+    case SHELF_REFUSAL_OUTSIDE_RANGE:
+        return "the size is outside the master's range";
     default:
         return "no refusal has this number";
     }

@@ -1,6 +1,7 @@
 /* A panel's round: know how far a search can go, open a shelf for masters with
- * trailers, shelve those of two productions, take a master out again, read the
- * answers, print the vault sheet, check plans. */
+ * trailers, shelve those of two productions, take a master out again, keep a place
+ * for one that is not finished and settle its size, read the answers, print the
+ * vault sheet, check plans. */
 
 #include <inttypes.h>
 #include <stdio.h>
@@ -8,22 +9,32 @@
 #include "shelf.h"
 
 enum { CAPACITY = 60, STOCK = 6, M = 6, TRAILER = 1 };
-enum { OPEN = 0x11, SHELVE = 0x02, COUNT = 0x03, WITHDRAW = 0x04, SWITCH = 0x05 };
+enum {
+    OPEN = 0x11,
+    SHELVE = 0x02,
+    COUNT = 0x03,
+    WITHDRAW = 0x04,
+    SWITCH = 0x05,
+    RESERVE = 0x06,
+    SETTLE = 0x07
+};
 
+/* A command and its operands, 0 where it has fewer than two. */
 struct command {
     uint8_t byte;
-    uint32_t operand;
+    uint32_t operand, second;
 };
 
 static const struct command commands[] = {
-    {SHELVE, 34},  {SHELVE, 21},   {SHELVE, 21}, {SHELVE, 21},  {SHELVE, 21},
-    {SHELVE, 21},  {SHELVE, 21},   {SWITCH, 1},  {SHELVE, 34},  {SHELVE, 19},
-    {SHELVE, 29},  {SHELVE, 60},   {COUNT, 0},   {WITHDRAW, 3}, {SWITCH, 0},
-    {WITHDRAW, 3}, {COUNT, 0}};
+    {SHELVE, 34, 0},   {SHELVE, 21, 0},   {SHELVE, 21, 0},   {SHELVE, 21, 0},
+    {SHELVE, 21, 0},   {SHELVE, 21, 0},   {SHELVE, 21, 0},   {SWITCH, 1, 0},
+    {SHELVE, 34, 0},   {SHELVE, 19, 0},   {SHELVE, 29, 0},   {SHELVE, 60, 0},
+    {COUNT, 0, 0},     {WITHDRAW, 3, 0},  {SWITCH, 0, 0},    {WITHDRAW, 3, 0},
+    {COUNT, 0, 0},     {RESERVE, 18, 22}, {SETTLE, 18, 23},  {SETTLE, 18, 19}};
 
 enum { COMMANDS = sizeof commands / sizeof *commands };
 
-static uint8_t stream[10 + 5 * COMMANDS];
+static uint8_t stream[10 + 9 * COMMANDS];
 static size_t length;
 
 /* Of a production's master, by its command: the stored size, 0 where none is
@@ -37,18 +48,30 @@ static void put(uint32_t number, int bytes)
         stream[length++] = (number >> (8 * bytes)) & 0xff;
 }
 
-/* The bytes that a command's operand takes. */
-static int width(uint8_t byte)
+/* Appends a command, its operands in as many bytes as each takes. */
+static void append(const struct command *command)
 {
-    switch (byte) {
+    put(command->byte, 1);
+    switch (command->byte) {
     case SHELVE:
-        return 4;
+        put(command->operand, 4);
+        break;
     case WITHDRAW:
-        return 2;
+        put(command->operand, 2);
+        break;
     case SWITCH:
-        return 1;
+        put(command->operand, 1);
+        break;
+    case RESERVE:
+        put(command->operand, 4);
+        put(command->second, 4);
+        break;
+    case SETTLE:
+        put(command->operand, 2);
+        put(command->second, 4);
+        break;
     default:
-        return 0;
+        break;
     }
 }
 
@@ -59,18 +82,29 @@ static void print_sheet(void)
     fwrite(sheet, 1, shelf_sheet(stream, length, sheet), stdout);
 }
 
-/* Prints the answer to a master or a withdrawal; whether it is accepted. */
-static int answered(const char *what, uint32_t number, uint16_t answer,
-                    uint32_t free_units)
+/* Prints the answer to a master, a withdrawal or a settling; whether it is
+ * accepted. The word stands between the operands, and is NULL where one is all. */
+static int answered(const char *what, const char *word, struct command command,
+                    uint16_t answer, uint32_t free_units)
 {
     uint32_t refusal = shelf_answer_refusal(answer);
 
-    printf("%s of %" PRIu32 ": ", what, number);
+    printf("%s of %" PRIu32, what, command.operand);
+    if (word != NULL)
+        printf(" %s %" PRIu32, word, command.second);
+    printf(": ");
     if (refusal == 0)
         printf("cartridge %" PRIu16 ", %" PRIu32 " free\n", answer, free_units);
     else
         printf("refused %" PRIu32 ", %s\n", refusal, shelf_refusal_name(refusal));
     return refusal == 0;
+}
+
+/* Keeps in mind that a master lies in this cartridge. */
+static void keep(int production, size_t i, uint32_t size, uint16_t answer)
+{
+    stored[production][i] = size + TRAILER;
+    cartridge[production][i] = answer;
 }
 
 /* Checks a plan of just these masters, in cartridges up to the highest, with the
@@ -117,10 +151,8 @@ int main(void)
     put(STOCK, 2);
     put(M, 1);
     put(TRAILER, 2);
-    for (i = 0; i < COMMANDS; i++) {
-        put(commands[i].byte, 1);
-        put(commands[i].operand, width(commands[i].byte));
-    }
+    for (i = 0; i < COMMANDS; i++)
+        append(&commands[i]);
 
     result = shelf_stream(stream, length, answers, COMMANDS, free_units,
                           COMMANDS);
@@ -132,18 +164,24 @@ int main(void)
     }
 
     for (i = 0; i < COMMANDS; i++) {
-        uint32_t operand = commands[i].operand;
+        struct command sent = commands[i];
 
-        switch (commands[i].byte) {
+        switch (sent.byte) {
         case SHELVE:
-            if (answered("master", operand, answers[i], free_units[i])) {
-                stored[production][i] = operand + TRAILER;
-                cartridge[production][i] = answers[i];
-            }
+            if (answered("master", NULL, sent, answers[i], free_units[i]))
+                keep(production, i, sent.operand, answers[i]);
+            break;
+        case RESERVE:
+            if (answered("master", "to", sent, answers[i], free_units[i]))
+                keep(production, i, sent.second, answers[i]);
+            break;
+        case SETTLE:
+            if (answered("settling", "at", sent, answers[i], free_units[i]))
+                stored[production][sent.operand - 1] = sent.second + TRAILER;
             break;
         case WITHDRAW:
-            if (answered("withdrawal", operand, answers[i], free_units[i]))
-                stored[production][operand - 1] = 0;
+            if (answered("withdrawal", NULL, sent, answers[i], free_units[i]))
+                stored[production][sent.operand - 1] = 0;
             break;
         case SWITCH:
             production = answers[i];

@@ -86,7 +86,25 @@ $1 == "production" {
     next
 }
 
-{ bad("`" $1 "` is no command: open, shelve, count, withdraw or production") }
+$1 == "reserve" {
+    operands(2, "least greatest")
+    least = number("least", $2, 4294967295, "")
+    greatest = number("greatest", $3, 4294967295, "")
+    must_be_open()
+    printf "%d 06%08X%08X\n", NR, least, greatest
+    next
+}
+
+$1 == "settle" {
+    operands(2, "number size")
+    named = number("number", $2, 65535, "; it must be from 1 to 4096")
+    size = number("size", $3, 4294967295, "")
+    must_be_open()
+    printf "%d 07%04X%08X\n", NR, named, size
+    next
+}
+
+{ bad("`" $1 "` is no command: open, shelve, count, withdraw, production, reserve or settle") }
 
 END {
     if (failed)

@@ -16,8 +16,13 @@ function word(at) { return half(at) * 65536 + half(at + 2) }
 # How large a master is, and where there is a trailer, what it takes up.
 function units(size) { return size " units" (trailer ? ", " (size + trailer) " with its trailer" : "") }
 
-# Where each command starts, which production it belongs to, and what it is called: a master by its size, a withdrawal
-# by the number that it names. Only the opening 11 (hex) has a trailer.
+# The same of one that is of a least size and a greatest.
+function range(from, to) {
+    return from " to " to " units" (trailer ? ", " (from + trailer) " to " (to + trailer) " with its trailer" : "")
+}
+
+# Where each command starts, which production it belongs to, and what it is called: a master by its size or its range, a
+# withdrawal and a settling by the number that it names. Only the opening 11 (hex) has a trailer.
 function walk(    at) {
     start[0] = current = 0
     at = 8
@@ -38,6 +43,15 @@ function walk(    at) {
         } else if (byte[at] == 5) {
             current = byte[at + 1]
             at += 2
+        } else if (byte[at] == 6) {
+            least[commands] = word(at + 1)
+            greatest[commands] = word(at + 5)
+            what[commands] = "the master of " range(least[commands], greatest[commands])
+            at += 9
+        } else if (byte[at] == 7) {
+            named[commands] = half(at + 1)
+            what[commands] = "the settling of " named[commands] " at " word(at + 3) " units"
+            at += 7
         } else
             at++
     }
@@ -61,7 +75,7 @@ function refuse_stream(number, offset) {
     if (number == 1)
         say("byte 0", "the stream " (bytes ? "starts with " hex(0) : "is empty") "; it must start with the opening, 01 or 11")
     else if (number == 2)
-        say("byte " offset, "there is no command " hex(offset) ": only 01, 02, 03, 04, 05 and 11")
+        say("byte " offset, "there is no command " hex(offset) ": only 01 to 07 and 11")
     else if (number == 3)
         say("byte " offset, "the stream ends before the operands of " hex(offset) " do")
     else if (number == 4)
@@ -76,10 +90,15 @@ function refuse_stream(number, offset) {
         too_many()
 }
 
-# A master of the other production is on the shelf, but cannot be taken out.
-function reason(n, number,    other) {
-    other = production[named[n]]
-    return number == 17 && shelved[named[n]] && other != production[n] ? "that master is production " other "'s" : why[number]
+# A master of the other production is on the shelf, but can be neither taken out nor settled; one of this production has
+# a range that the size is outside of, or none any more.
+function reason(n, number,    master) {
+    master = named[n]
+    if (!(n in named) || !shelved[master])
+        return why[number]
+    if (production[master] != production[n])
+        return "that master is production " production[master] "'s"
+    return number == 21 ? why[number] ", " least[master] " to " greatest[master] : "the size of that master is settled"
 }
 
 function refuse_command(n, number) {
@@ -93,6 +112,9 @@ BEGIN {
     why[9] = "size and trailer above the capacity"
     why[10] = "a new cartridge is called for and the stock is spent"
     why[17] = "no master of that number is on the shelf"
+    why[19] = "the least size is 0 or above the greatest"
+    why[20] = "no master of that number waits to be settled"
+    why[21] = "the size is outside the master's range"
 }
 
 part == "row" { line[rows++] = $1; next }
@@ -103,9 +125,9 @@ FNR == 1 { walk() }
 
 $1 == "X" { refuse_stream($2, $3) }
 
-# So long a text has too many commands as well, and its author counts those.
+# If so long a text has too many commands as well, its author counts those.
 $1 == "L" {
-    if (rows)
+    if (rows > 4097)
         too_many()
     say(rows ? spot(commands) : "byte 32768", "here the stream grows longer than 32768 bytes")
 }

@@ -6,8 +6,8 @@
 #include "shelf.h"
 #include "shelf.h"
 
-#if SHELF_VERSION != 6
-#error "these are the checks of version 6"
+#if SHELF_VERSION != 7
+#error "these are the checks of version 7"
 #endif
 
 #if SHELF_MIN_M > SHELF_MAX_M || SHELF_MAX_CAPACITY < SHELF_MAX_SHEET_STREAM
@@ -25,7 +25,7 @@ int check_header(void)
 {
     const uint64_t accepted = 0x0000000a10000200u;
     const uint64_t widest = 0x7fffffffffffffffu;
-    const uint64_t no_words = 0x800000070000500au;
+    const uint64_t no_words = 0x800000070000900au;
     const uint64_t no_production = 0x8000001200000008u;
     const uint64_t last_plan = 0x80000010ffffffffu;
     static const uint16_t figures[] = {0, 1, SHELF_MAX_STOCK, 0x7fff};
@@ -64,7 +64,7 @@ int check_header(void)
 
     CHECK(shelf_is_refused(no_words));
     CHECK(shelf_refusal(no_words) == SHELF_REFUSAL_TOO_FEW_WORDS);
-    CHECK(shelf_place(no_words) == 10 + 5 * SHELF_MAX_COMMANDS);
+    CHECK(shelf_place(no_words) == 10 + 9 * SHELF_MAX_COMMANDS);
     CHECK(shelf_refusal(no_production) == SHELF_REFUSAL_NO_SUCH_PRODUCTION);
     CHECK(shelf_place(no_production) == 8);
 
@@ -82,13 +82,16 @@ int check_header(void)
     CHECK(shelf_answer_refusal(32777) == SHELF_REFUSAL_SIZE_ABOVE_CAPACITY);
     CHECK(shelf_answer_refusal(32778) == SHELF_REFUSAL_STOCK_SPENT);
     CHECK(shelf_answer_refusal(32785) == SHELF_REFUSAL_NOT_SHELVED);
+    CHECK(shelf_answer_refusal(32787) == SHELF_REFUSAL_RANGE_WRONG);
+    CHECK(shelf_answer_refusal(32788) == SHELF_REFUSAL_NOT_RESERVED);
+    CHECK(shelf_answer_refusal(32789) == SHELF_REFUSAL_OUTSIDE_RANGE);
 
-    /* Eighteen names, no two alike, and one for all other numbers. */
-    for (number = 0; number <= SHELF_REFUSAL_NO_SUCH_PRODUCTION; number++)
+    /* Twenty-one names, no two alike, and one for all other numbers. */
+    for (number = 0; number <= SHELF_REFUSAL_OUTSIDE_RANGE; number++)
         for (other = 0; other < number; other++)
             CHECK(strcmp(shelf_refusal_name(number),
                          shelf_refusal_name(other)) != 0);
-    CHECK(strcmp(shelf_refusal_name(19), shelf_refusal_name(0)) == 0);
+    CHECK(strcmp(shelf_refusal_name(22), shelf_refusal_name(0)) == 0);
     CHECK(strcmp(shelf_refusal_name(0xffffffff), shelf_refusal_name(0)) == 0);
     return 0;
 }

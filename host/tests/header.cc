@@ -30,6 +30,11 @@ const bytes trailers = {0x11, 0, 0, 0, 60, 0, 1, 6, 0, 5, 2, 0, 0, 0, 30,
 const bytes second = {1, 0, 0, 0, 60, 0, 1, 6, 5, 1, 2, 0, 0, 0, 35,
                       2, 0, 0, 0, 40, 3, 4, 0, 2, 4, 0, 3};
 
+// A master of 30 to 40, settled at 50, at 35 and at 35 again; one of 5 to 4.
+const bytes ranges = {1, 0, 0, 0, 60, 0, 1, 6, 6, 0,  0, 0, 30, 0, 0, 0, 40,
+                      7, 0, 1, 0, 0,  0, 50, 7, 0, 1, 0, 0,  0, 35, 7, 0, 1,
+                      0, 0, 0, 35, 6, 0, 0, 0, 5, 0, 0, 0, 4};
+
 uint64_t shelve(const bytes &sent, std::vector<uint16_t> &answers,
                 std::vector<uint32_t> &free_units)
 {
@@ -83,6 +88,14 @@ int check_header()
         CHECK(other_answers[i + 1] == answers[i]);
         CHECK(other_units[i + 1] == free_units[i]);
     }
+
+    CHECK(!shelf_is_refused(shelve(ranges, other_answers, other_units)));
+    CHECK(other_answers[0] == 1 && other_units[0] == 20);
+    CHECK(shelf_answer_refusal(other_answers[1]) == SHELF_REFUSAL_OUTSIDE_RANGE);
+    CHECK(other_answers[2] == 1 && other_units[2] == 25);
+    CHECK(shelf_answer_refusal(other_answers[3]) == SHELF_REFUSAL_NOT_RESERVED);
+    CHECK(shelf_answer_refusal(other_answers[4]) == SHELF_REFUSAL_RANGE_WRONG);
+    CHECK(other_units[1] == 0 && other_units[3] == 0 && other_units[4] == 0);
 
     bytes third = second;
     third[9] = 2;

@@ -28,12 +28,14 @@ enum Besides {
     Withdrawals,
     /// Once the stock is spent, an item is taken out before every item.
     Refills,
+    /// Most items have a range; some are settled later, and some are taken out.
+    Ranges,
     /// A switch to the other production after so many items, from the least to
     /// the most.
     Switches(u32, u32),
 }
 
-pub const MIXES: [Mix; 13] = [
+pub const MIXES: [Mix; 14] = [
     // Any size; the stock is soon spent, and most are refused.
     Mix {
         name: "uniform",
@@ -114,6 +116,12 @@ pub const MIXES: [Mix; 13] = [
         size: of_every_class,
         besides: Besides::Switches(1, 1),
     },
+    // Every class, with settlings and withdrawals, and the stock suffices.
+    Mix {
+        name: "ranges",
+        size: of_every_class,
+        besides: Besides::Ranges,
+    },
 ];
 
 /// A size of any class, mostly X.
@@ -142,6 +150,7 @@ impl Mix {
             };
             match self.besides {
                 _ if withdraws => making.withdraw(&mut numbers),
+                Besides::Ranges => making.ranges((self.size)(&mut numbers), &mut numbers),
                 Besides::Switches(least, most) if making.to_switch == 0 => {
                     making.switch(numbers.between(least, most));
                 }
@@ -162,6 +171,8 @@ struct Making {
     /// The numbers of the items on the shelf, and of those taken out.
     shelved: Vec<u16>,
     gone: Vec<u16>,
+    /// The ranges of those that wait to be settled, by their numbers.
+    waiting: Vec<(u16, u32, u32)>,
     /// The production that the commands belong to, and the items up to the next
     /// switch, where there are any.
     production: Production,
@@ -175,6 +186,7 @@ impl Making {
             shelf: Scan::open(CAPACITY, MAX_STOCK, M, 0),
             shelved: Vec::new(),
             gone: Vec::new(),
+            waiting: Vec::new(),
             production: Production::First,
             to_switch: 1,
         }
@@ -197,6 +209,41 @@ impl Making {
         self.to_switch = self.to_switch.saturating_sub(1);
     }
 
+    /// One of eight commands shelves an item of this size, three one that is of this
+    /// size at the greatest, three settle one and one takes one out.
+    fn ranges(&mut self, size: u32, numbers: &mut Numbers) {
+        match numbers.between(1, 8) {
+            1 => self.shelve(size),
+            2..=4 => self.reserve(numbers.between(size.div_ceil(2), size), size),
+            5 => self.withdraw(numbers),
+            _ => self.settle(numbers),
+        }
+    }
+
+    fn reserve(&mut self, least: u32, greatest: u32) {
+        self.stream.reserve(least, greatest);
+        let (word, _) = self.shelf.reserve(least, greatest);
+        if word < 0x8000 {
+            let number = self.stream.commands() as u16;
+            self.shelved.push(number);
+            self.waiting.push((number, least, greatest));
+        }
+    }
+
+    /// Settles an item that waits for it, where there is one.
+    fn settle(&mut self, numbers: &mut Numbers) {
+        let (number, size) = match self.waiting.len() {
+            0 => (0, 1),
+            waiting => {
+                let place = numbers.between(0, waiting as u32 - 1) as usize;
+                let (number, least, greatest) = self.waiting.swap_remove(place);
+                (number, numbers.between(least, greatest))
+            }
+        };
+        self.stream.settle(number, size);
+        self.shelf.settle(number, size);
+    }
+
     fn count(&mut self) {
         self.stream.count();
         self.shelf.count();
@@ -213,6 +260,7 @@ impl Making {
         } else {
             let number = self.shelved.swap_remove(numbers.place(&self.shelved));
             self.gone.push(number);
+            self.waiting.retain(|&(waiting, ..)| waiting != number);
             number
         };
         self.stream.withdraw(number);

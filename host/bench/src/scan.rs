@@ -25,11 +25,15 @@ impl Store {
     }
 }
 
-/// Where an item lies, and its stored size.
+/// Where an item lies, and what it takes up.
 struct Item {
     production: usize,
     place: usize,
     size: u32,
+    /// Whether it was shelved as an A, which it stays.
+    is_a: bool,
+    /// The sizes that it may be settled at, without the trailer, till it is.
+    range: Option<(u32, u32)>,
 }
 
 /// A shelf that answers one command after another, by both words.
@@ -67,10 +71,23 @@ impl Scan {
 
     pub fn shelve(&mut self, bare: u32) -> (u16, u32) {
         self.items.push(None);
-        let capacity = self.capacity;
-        if bare == 0 {
-            return refused(8);
+        match bare {
+            0 => refused(8),
+            _ => self.place(bare, None),
         }
+    }
+
+    pub fn reserve(&mut self, least: u32, greatest: u32) -> (u16, u32) {
+        self.items.push(None);
+        match least {
+            1.. if least <= greatest => self.place(greatest, Some((least, greatest))),
+            _ => refused(19),
+        }
+    }
+
+    /// Places the item of the last command, which is of this size, or of this range.
+    fn place(&mut self, bare: u32, range: Option<(u32, u32)>) -> (u16, u32) {
+        let capacity = self.capacity;
         // The sum may pass 32 bits.
         let stored = u64::from(bare) + self.trailer;
         if stored > capacity.into() {
@@ -116,6 +133,8 @@ impl Scan {
             production,
             place,
             size,
+            is_a,
+            range,
         });
         (place as u16 + 1, bin.free)
     }
@@ -131,14 +150,35 @@ impl Scan {
         let named = usize::from(number).wrapping_sub(1);
         let own = |item: &mut Item| item.production == self.production;
         let named = self.items.get_mut(named);
-        let Some(Item { place, size, .. }) = named.and_then(|item| item.take_if(own)) else {
+        let Some(item) = named.and_then(|item| item.take_if(own)) else {
             return refused(17);
         };
-        let bin = &mut self.stores[self.production].bins[place];
-        bin.free += size;
-        bin.held_a -= u32::from(2 * size > self.capacity);
+        let bin = &mut self.stores[self.production].bins[item.place];
+        bin.free += item.size;
+        bin.held_a -= u32::from(item.is_a);
         self.shelved -= 1;
-        (place as u16 + 1, bin.free)
+        (item.place as u16 + 1, bin.free)
+    }
+
+    pub fn settle(&mut self, number: u16, bare: u32) -> (u16, u32) {
+        self.items.push(None);
+        let named = usize::from(number).wrapping_sub(1);
+        let named = self.items.get_mut(named).and_then(Option::as_mut);
+        let own = named.filter(|item| item.production == self.production);
+        let Some((item, (least, greatest))) =
+            own.and_then(|item| item.range.map(|its| (item, its)))
+        else {
+            return refused(20);
+        };
+        if bare < least || bare > greatest {
+            return refused(21);
+        }
+        // It is no larger than its greatest, with which the sum fits.
+        let size = bare + self.trailer as u32;
+        let bin = &mut self.stores[item.production].bins[item.place];
+        bin.free += item.size - size;
+        (item.size, item.range) = (size, None);
+        (item.place as u16 + 1, bin.free)
     }
 
     pub fn switch(&mut self, production: u8) -> (u16, u32) {
@@ -173,6 +213,16 @@ pub fn shelve(stream: &[u8], answers: &mut [u16], free: &mut [u32]) -> u64 {
             [0x05, production, ref after @ ..] => {
                 rest = after;
                 scan.switch(production)
+            }
+            [0x06, a, b, c, d, e, f, g, h, ref after @ ..] => {
+                rest = after;
+                let least = u32::from_be_bytes([a, b, c, d]);
+                scan.reserve(least, u32::from_be_bytes([e, f, g, h]))
+            }
+            [0x07, a, b, c, d, e, f, ref after @ ..] => {
+                rest = after;
+                let number = u16::from_be_bytes([a, b]);
+                scan.settle(number, u32::from_be_bytes([c, d, e, f]))
             }
             [_, ref after @ ..] => {
                 rest = after;

@@ -1,7 +1,7 @@
 //! The same algorithm by hand: tournament trees in safe Rust; beside them a row
 //! of figures for each bin, as a vault sheet needs them and a count walks, and a
-//! list of the bin and the stored size of each command's item, for a withdrawal
-//! to find them. Each production has its own.
+//! list of the bin and the sizes of each command's item, for a withdrawal or a
+//! settling to find them. Each production has its own.
 
 use std::hint::black_box;
 use std::mem::replace;
@@ -24,9 +24,29 @@ type Tree = [u32; 2 * MAX_LEAVES];
 /// space, the items that it holds, and how many of these are A.
 type Rows = [[u32; 4]; MAX_LEAVES];
 
-/// The place and the stored size of each command's item; size 0 where there is
-/// none of this production, or none any more.
-type Items = [(u32, u32); MAX_COMMANDS];
+/// Those of each command.
+type Items = [Item; MAX_COMMANDS];
+
+#[derive(Clone, Copy)]
+struct Item {
+    place: u32,
+    /// Its stored size; 0 where there is none of this production, or none any more.
+    size: u32,
+    /// The stored size that it was shelved by.
+    greatest: u32,
+    /// The least that it may be settled at, without a trailer; 0 where it does not
+    /// wait for that.
+    least: u32,
+}
+
+impl Item {
+    const NONE: Self = Self {
+        place: 0,
+        size: 0,
+        greatest: 0,
+        least: 0,
+    };
+}
 
 const MAX_LEAVES: usize = 512;
 const MAX_COMMANDS: usize = 4096;
@@ -36,7 +56,7 @@ impl Store {
     const EMPTY: Self = Self {
         trees: [[0; 2 * MAX_LEAVES]; 5],
         rows: [[0; 4]; MAX_LEAVES],
-        items: [(0, 0); MAX_COMMANDS],
+        items: [Item::NONE; MAX_COMMANDS],
         counts: Counts::NONE,
     };
 }
@@ -152,14 +172,20 @@ fn take_out(own: &mut Store, leaves: usize, capacity: u32, number: u16) -> Optio
         trees, rows, items, ..
     } = own;
     let named = items.get_mut(usize::from(number).wrapping_sub(1))?;
-    let (place, size @ 1..) = *named else {
+    let Item {
+        place,
+        size,
+        greatest,
+        ..
+    } = *named;
+    if size == 0 {
         return None;
-    };
-    *named = (0, 0);
+    }
+    *named = Item::NONE;
     // The masks change nothing, and spare checks of bounds.
     let row = &mut rows[place as usize % MAX_LEAVES];
     let [class, free, held, held_a] = *row;
-    let (free, held_a) = (free + size, held_a - u32::from(2 * size > capacity));
+    let (free, held_a) = (free + size, held_a - u32::from(2 * greatest > capacity));
     *row = [class, free, held - 1, held_a];
     let leaf = leaves + place as usize;
     raise(&mut trees[class as usize % trees.len()], leaf, free);
@@ -167,6 +193,40 @@ fn take_out(own: &mut Store, leaves: usize, capacity: u32, number: u16) -> Optio
         store(&mut trees[WITH_A], leaf, if held_a > 0 { free } else { 0 });
     }
     Some((place, free))
+}
+
+/// Settles the item of a command: its place, and the free space then; or the number
+/// of the refusal.
+#[inline(never)]
+fn settle(
+    own: &mut Store,
+    leaves: usize,
+    trailer: u32,
+    number: u16,
+    bare: u32,
+) -> Result<(u32, u32), u16> {
+    let Store {
+        trees, rows, items, ..
+    } = own;
+    let named = items.get_mut(usize::from(number).wrapping_sub(1));
+    let item = named.filter(|item| item.least > 0).ok_or(20_u16)?;
+    // Its greatest size has the trailer in it, so nothing passes 32 bits.
+    if bare < item.least || bare > item.greatest - trailer {
+        return Err(21);
+    }
+    let size = bare + trailer;
+    let (place, less) = (item.place, item.size - size);
+    (item.size, item.least) = (size, 0);
+    // The masks change nothing, and spare checks of bounds.
+    let row = &mut rows[place as usize % MAX_LEAVES];
+    row[1] += less;
+    let [class, free, _, held_a] = *row;
+    let leaf = leaves + place as usize;
+    raise(&mut trees[class as usize % trees.len()], leaf, free);
+    if class == 1 && held_a > 0 {
+        raise(&mut trees[WITH_A], leaf, free);
+    }
+    Ok((place, free))
 }
 
 struct Opening {
@@ -226,6 +286,8 @@ fn read(stream: &[u8]) -> Result<(Opening, usize), u64> {
             0x03 => 1,
             0x04 => 3,
             0x05 => 2,
+            0x06 => 9,
+            0x07 => 7,
             _ => return Err(refused(2, offset)),
         };
         if stream.len() - offset < len {
@@ -338,10 +400,31 @@ fn answer_stretch(opening: &Opening, own_stock: usize, own: &mut Store, at: &mut
     let words = at.answers[at.answered..].iter_mut();
     let words = words.zip(&mut at.free_units[at.answered..]);
     for ((word, left), item) in words.zip(at.answered..MAX_COMMANDS) {
-        let bare = match *rest {
+        // The size that an item is shelved by, and the least of its range, if any.
+        let (bare, least) = match *rest {
             [0x02, s0, s1, s2, s3, ref after @ ..] => {
                 rest = after;
-                u32::from_be_bytes([s0, s1, s2, s3])
+                (u32::from_be_bytes([s0, s1, s2, s3]), 0)
+            }
+            [0x06, l0, l1, l2, l3, g0, g1, g2, g3, ref after @ ..] => {
+                rest = after;
+                let least = u32::from_be_bytes([l0, l1, l2, l3]);
+                let greatest = u32::from_be_bytes([g0, g1, g2, g3]);
+                if least == 0 || least > greatest {
+                    (*word, *left) = (0x8000 + 19, 0);
+                    continue;
+                }
+                (greatest, least)
+            }
+            [0x07, n0, n1, s0, s1, s2, s3, ref after @ ..] => {
+                rest = after;
+                let number = u16::from_be_bytes([n0, n1]);
+                let bare = u32::from_be_bytes([s0, s1, s2, s3]);
+                (*word, *left) = match settle(own, leaves, trailer, number, bare) {
+                    Ok((place, free)) => ((place + 1) as u16, free),
+                    Err(refusal) => (0x8000 + refusal, 0),
+                };
+                continue;
             }
             [0x04, n0, n1, ref after @ ..] => {
                 rest = after;
@@ -425,7 +508,12 @@ fn answer_stretch(opening: &Opening, own_stock: usize, own: &mut Store, at: &mut
                 store(&mut trees[tree], leaf, free);
             }
         }
-        items[item] = (place as u32, size);
+        items[item] = Item {
+            place: place as u32,
+            size,
+            greatest: size,
+            least,
+        };
         shelved += 1;
         (*word, *left) = ((place + 1) as u16, free);
     }
@@ -501,9 +589,13 @@ mod tests {
             for (production, command, answer) in shelved.answers() {
                 let a = |size: u64| u32::from(2 * size > opening.capacity.into());
                 let rows = &mut expected[production];
+                // An A is one by the size that it was shelved by.
                 sizes.push(0);
                 match (command, answer) {
-                    (Command::Shelve { size }, Answer::Placed { bin, .. }) => {
+                    (
+                        Command::Shelve { size } | Command::Reserve { greatest: size, .. },
+                        Answer::Placed { bin, .. },
+                    ) => {
                         let size = opening.stored(size);
                         *sizes.last_mut().unwrap() = size;
                         rows[usize::from(bin) - 1][3] += a(size);
@@ -548,6 +640,42 @@ mod tests {
             assert_eq!((result, &words[..]), (totals, &expected[..]));
             assert_eq!((free[3], free[7], free[11], free[14]), (20, 30, 60, 60));
         }
+    }
+
+    /// A and B2 that share cartridges, settled, taken out and refused in each way.
+    #[test]
+    fn ranges_are_shelved_and_settled() {
+        let mut stream = StreamBuilder::open_with_trailer(60, 2, 6, 5);
+        stream.reserve(0, 9).reserve(9, 8).reserve(1, 56);
+        stream.reserve(1, u32::MAX).reserve(10, 55); // 5: an A
+        stream.settle(5, 9).settle(5, 56).settle(5, u32::MAX);
+        stream
+            .settle(0, 9)
+            .settle(1, 9)
+            .settle(4096, 9)
+            .settle(4097, 9);
+        stream.settle(5, 10).settle(5, 10); // 13: 15 units of the first
+        stream.shelve(40).settle(15, 40); // 15: the other A
+        stream.withdraw(5).withdraw(15).reserve(1, 16); // 19: a B2
+        stream.switch(Production::Second).settle(19, 1).shelve(1);
+        stream.switch(Production::First).settle(19, 1).withdraw(19);
+        let words = [
+            0x8013, 0x8013, 0x8009, 0x8009, 1, 0x8015, 0x8015, 0x8015, 0x8014, 0x8014, 0x8014,
+            0x8014, 1, 0x8014, 1, 0x8014, 1, 1, 2, 1, 0x8014, 0x800A, 0, 2, 2,
+        ];
+        let free = [
+            0, 0, 0, 0, 0, 0, 0, 0, 0, 0, 0, 0, 45, 0, 0, 0, 15, 60, 39, 0, 0, 0, 0, 54, 60,
+        ];
+        for (engine, looks) in [(shelve as Engine, 2), (crate::scan::shelve, 0)] {
+            let (mut answers, mut units) = stream.rows();
+            let result = engine(stream.bytes(), &mut answers, &mut units);
+            assert_eq!((&answers[..], &units[..]), (&words[..], &free[..]));
+            assert_eq!(result, looks << 32 | 2);
+        }
+        // Cut short, they are refused as a whole.
+        let refused_at = |len: usize| shelve(&stream.bytes()[..len], &mut [0; 9], &mut [0; 9]);
+        assert_eq!(refused_at(18), refused(3, 10));
+        assert_eq!(refused_at(19 + 4 * 9 + 6), refused(3, 19 + 4 * 9));
     }
 
     #[test]
@@ -644,7 +772,10 @@ mod tests {
                 match answer {
                     Answer::Placed { bin, .. } => *bins = bin.max(*bins),
                     Answer::Counted { opened } => assert_eq!(opened, *bins, "{}", mix.name),
-                    Answer::Withdrawn { .. } | Answer::Switched(_) | Answer::Refused(_) => {}
+                    Answer::Withdrawn { .. }
+                    | Answer::Settled { .. }
+                    | Answer::Switched(_)
+                    | Answer::Refused(_) => {}
                 }
             }
             // The first rows are those of a smaller stock.

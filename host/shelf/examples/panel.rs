@@ -1,11 +1,10 @@
 //! A panel's round: know how far a search can go, open a shelf for masters with
-//! trailers, shelve those of two productions, take a master out again, read the
-//! answers, print the vault sheet, check plans.
-
-use std::collections::BTreeMap;
+//! trailers, shelve those of two productions, take a master out again, keep a place
+//! for one that is not finished and settle its size, read the answers, print the
+//! vault sheet, check plans.
 
 use shelf::Production::{First, Second};
-use shelf::{Answer, Command, Entry, Production, StreamBuilder, Totals};
+use shelf::{Answer, Command, Entry, Items, Opening, Production, StreamBuilder, Totals};
 
 const CAPACITY: u32 = 60;
 const STOCK: u16 = 6;
@@ -21,6 +20,7 @@ fn main() {
     stream.switch(Second).shelve(34).shelve(19).shelve(29);
     stream.shelve(60).count().withdraw(3);
     stream.switch(First).withdraw(3).count();
+    stream.reserve(18, 22).settle(18, 23).settle(18, 19);
 
     let (mut words, mut free) = stream.rows();
     let totals = match shelf::shelve(stream.bytes(), &mut words, &mut free) {
@@ -31,33 +31,21 @@ fn main() {
         }
     };
 
-    // Of each production the masters still shelved, by command: their stored
-    // sizes, and where they lie.
-    let mut shelved = Production::BOTH.map(|_| BTreeMap::new());
-    let answers = shelf::answers(stream.bytes(), &words, &free);
-    let answers = answers.zip(shelf::productions(stream.bytes()));
-    for (command, (answered, production)) in (1..).zip(answers) {
-        let own = &mut shelved[usize::from(production.number())];
-        match answered {
-            (Command::Shelve { size }, Answer::Placed { bin, free }) => {
-                println!("master of {size}: cartridge {bin}, {free} free");
-                let size = size + u32::from(TRAILER);
-                let bin = bin.into();
-                own.insert(command, Entry { size, bin });
-            }
-            (Command::Shelve { size }, Answer::Refused(why)) => {
-                println!("master of {size}: refused {}, {why}", why.number());
-            }
-            (Command::Withdraw { number }, Answer::Withdrawn { bin, free }) => {
-                println!("withdrawal of {number}: cartridge {bin}, {free} free");
-                own.remove(&number);
-            }
-            (Command::Withdraw { number }, Answer::Refused(why)) => {
-                println!("withdrawal of {number}: refused {}, {why}", why.number());
-            }
-            (_, Answer::Counted { opened }) => println!("{opened} cartridges opened"),
-            (_, Answer::Switched(next)) => println!("production {}", next.number()),
-            _ => unreachable!("an answer is that of its command"),
+    for (command, answer) in shelf::answers(stream.bytes(), &words, &free) {
+        match command {
+            Command::Shelve { size } => print!("master of {size}: "),
+            Command::Reserve { least, greatest } => print!("master of {least} to {greatest}: "),
+            Command::Withdraw { number } => print!("withdrawal of {number}: "),
+            Command::Settle { number, size } => print!("settling of {number} at {size}: "),
+            Command::Count | Command::Switch(_) => {}
+        }
+        match answer {
+            Answer::Placed { bin, free }
+            | Answer::Withdrawn { bin, free }
+            | Answer::Settled { bin, free } => println!("cartridge {bin}, {free} free"),
+            Answer::Refused(why) => println!("refused {}, {why}", why.number()),
+            Answer::Counted { opened } => println!("{opened} cartridges opened"),
+            Answer::Switched(next) => println!("production {}", next.number()),
         }
     }
     let Totals {
@@ -68,8 +56,11 @@ fn main() {
     println!("{items} masters in {opened} cartridges, the longest search {looks} looks");
     print!("{}", shelf::sheet(stream.bytes()).text());
 
-    // They are a plan of their own in each production.
-    let mut plans = shelved.map(|own| own.into_values().collect::<Vec<Entry>>());
+    // The masters still shelved, in their stored sizes, and where they lie are a plan
+    // of their own in each production.
+    let opening = Opening::read(stream.bytes()).expect("it was accepted");
+    let items = Items::after(stream.bytes(), &words, &free);
+    let mut plans = Production::BOTH.map(|production| items.plan(&opening, production));
     for (number, plan) in plans.iter().enumerate() {
         report(&format!("production {number}'s own plan"), plan);
     }

@@ -27,24 +27,31 @@
 //!
 //! The number of a bin is its place in the order of opening, from 1. A bin that
 //! is emptied stays opened and is chosen again like any other of its class.
-//! Refusals keep the numbers 1 to 18 of the specification; `number` gives them.
+//! Refusals keep the numbers 1 to 21 of the specification; `number` gives them.
 //!
 //! Where a trailer is written after each item, the opening has its length
 //! ([`StreamBuilder::open_with_trailer`]). An item then takes up its stored size
 //! ([`Opening::stored`]): its bin, the loads, the free units and the shelf's own
 //! plan go by that.
 //!
+//! An item whose size is known within a range only is shelved by the greatest
+//! ([`StreamBuilder::reserve`]), and takes up its true size once that is told
+//! ([`StreamBuilder::settle`]). [`Items`] has what is still shelved, with the sizes
+//! that count.
+//!
 //! Two productions may draw on one stock. A stream starts in the first, and
 //! [`StreamBuilder::switch`] makes the commands after it belong to either. Each
 //! [`Production`] has bins of its own, numbered from 1; the stock is spent once
 //! both together have opened it all.
 
+mod items;
 mod production;
 mod refusals;
 mod results;
 mod sheet;
 mod stream;
 
+pub use items::{Item, Items};
 pub use production::Production;
 pub use refusals::{CommandRefusal, PlanFault, PlanRefusal, StreamFault, StreamRefusal};
 pub use sheet::{Row, Sheet};
@@ -90,11 +97,12 @@ pub const fn most_looks(stock: u16) -> u8 {
     1 + stock.next_power_of_two().ilog2() as u8
 }
 
-/// The most bins that a production ever opens of which no item was taken out,
-/// where a plan of its items, by stored sizes, that [`check_plan`] passes uses `k`
-/// bins: three times their number is at most `5 * k + 5`. For every `k` from 1 to
-/// [`MAX_STOCK`] and every `m` there is a stream that opens so many, with the
-/// largest stock; of a smaller one no more than that are opened.
+/// The most bins that a production ever opens of which no item was taken out or
+/// settled, where a plan of its items, by stored sizes (the greatest, of an item
+/// with a range), that [`check_plan`] passes uses `k` bins: three times their
+/// number is at most `5 * k + 5`. For every `k` from 1 to [`MAX_STOCK`] and every
+/// `m` there is a stream that opens so many, with the largest stock; of a smaller
+/// one no more than that are opened.
 ///
 /// ```
 /// assert_eq!(shelf::most_opened(2), 5); // capacity 11: 6, 5, 6, 4 and 1
@@ -149,8 +157,8 @@ pub struct Totals {
     /// reading of one node: of the root, and while the item fits, of the left half
     /// of each level, until one bin is left. So a search takes 1 look if no
     /// permitted bin has space, and otherwise [`most_looks`], which is the most.
-    /// Each item makes one search, but for those refused with 8 or 9, and no other
-    /// command makes any.
+    /// Each item makes one search, but for those refused with 8, 9 or 19, and no
+    /// other command makes any.
     ///
     /// ```
     /// let mut stream = shelf::StreamBuilder::open(60, 4, 6);
@@ -176,8 +184,8 @@ pub struct Entry {
 ///
 /// On success word `n - 1` of each row answers command `n` after the opening:
 /// in `answers` by the item's bin, the count, the production or the refusal, in
-/// `free` by the units free on that bin just after the item was placed or taken
-/// out, and by 0 for all else ([`answers`] reads them). The words past the last
+/// `free` by the units free on that bin just after the item was placed, settled or
+/// taken out, and by 0 for all else ([`answers`] reads them). The words past the last
 /// command are untouched. A refused stream leaves every word of both rows
 /// untouched.
 ///
@@ -289,7 +297,7 @@ pub fn write_sheet(stream: &[u8], sheet: &mut [u8; SHEET_BYTES]) -> usize {
 /// `k` of the given capacity. A `k` larger than the bins used is permitted.
 /// Sizes are taken as they are given: those of a shelf's own items must be
 /// stored sizes ([`Opening::stored`]), in `plan` and in `items`. Each production
-/// has a plan of its own.
+/// has a plan of its own ([`Items::plan`]).
 ///
 /// ```
 /// use shelf::{Entry, PlanFault};
@@ -401,14 +409,14 @@ mod tests {
 
     #[test]
     fn numbers_and_faults_go_both_ways() {
-        for number in 0..=20 {
+        for number in 0..=23 {
             let found = [
                 StreamFault::from_number(number).map(StreamFault::number),
                 CommandRefusal::from_number(number).map(CommandRefusal::number),
                 PlanFault::from_number(number).map(PlanFault::number),
             ];
             let known: Vec<u32> = found.into_iter().flatten().collect();
-            let expected: &[u32] = if (1..=18).contains(&number) {
+            let expected: &[u32] = if (1..=21).contains(&number) {
                 &[number]
             } else {
                 &[]

@@ -53,13 +53,17 @@ refusals! {
 }
 
 refusals! {
-    /// Why one command was refused: 8 to 10 are of an item, 17 is of a
-    /// withdrawal. It changes nothing, and the stream goes on after it.
+    /// Why one command was refused: 8 to 10 are of an item, 19 of one with a
+    /// range in place of 8, 17 is of a withdrawal, 20 and 21 are of a settling. It
+    /// changes nothing, and the stream goes on after it.
     CommandRefusal {
         SizeZero = 8 "size 0"
         SizeAboveCapacity = 9 "size and trailer above the capacity"
         StockSpent = 10 "a new cartridge is called for and the stock is spent"
         NotShelved = 17 "no master of that number is on the shelf"
+        RangeWrong = 19 "the least size is 0 or above the greatest"
+        NotReserved = 20 "no master of that number waits to be settled"
+        OutsideRange = 21 "the size is outside the master's range"
     }
 }
 

@@ -71,13 +71,13 @@ mod tests {
         for code in [1 << 40, 0x101 << 32, REFUSED >> 1, REFUSED - 1, REFUSED] {
             assert_eq!(of_stream(code), None);
         }
-        for number in [8, 17, 19] {
+        for number in [8, 17, 19, 20, 21, 22] {
             assert_eq!(of_stream(REFUSED | number << 32), None);
         }
         for code in [1, 11 << 32] {
             assert_eq!(of_plan(code), None);
         }
-        for number in [10, 17, 18] {
+        for number in [10, 17, 18, 19, 22] {
             assert_eq!(of_plan(REFUSED | number << 32), None);
         }
     }

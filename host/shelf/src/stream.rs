@@ -11,6 +11,8 @@ const SHELVE: u8 = 0x02;
 const COUNT: u8 = 0x03;
 const WITHDRAW: u8 = 0x04;
 const SWITCH: u8 = 0x05;
+const RESERVE: u8 = 0x06;
+const SETTLE: u8 = 0x07;
 
 /// An answer word with this bit carries a refusal's number.
 const REFUSED: u16 = 0x8000;
@@ -160,6 +162,36 @@ impl StreamBuilder {
         self
     }
 
+    /// Shelve an item whose size is known within a range only: it is placed by
+    /// the greatest, until [`settle`](Self::settle) tells its size. A trailer is
+    /// not part of either.
+    ///
+    /// ```
+    /// let mut stream = shelf::StreamBuilder::open(60, 4, 6);
+    /// let feature = stream.reserve(30, 40).commands(); // its number, 1
+    /// stream.shelve(22).settle(feature as u16, 34);
+    /// assert_eq!(stream.bytes()[8..17], [6, 0, 0, 0, 30, 0, 0, 0, 40]);
+    /// assert_eq!(stream.bytes()[22..], [7, 0, 1, 0, 0, 0, 34]);
+    /// ```
+    pub fn reserve(&mut self, least: u32, greatest: u32) -> &mut Self {
+        self.bytes.push(RESERVE);
+        self.bytes.extend(least.to_be_bytes());
+        self.bytes.extend(greatest.to_be_bytes());
+        self.commands += 1;
+        self
+    }
+
+    /// Tell the size of the item that the [`reserve`](Self::reserve) of this number
+    /// shelved for the same production, once: from then on the item takes up so
+    /// much. A trailer is not part of it.
+    pub fn settle(&mut self, number: u16, size: u32) -> &mut Self {
+        self.bytes.push(SETTLE);
+        self.bytes.extend(number.to_be_bytes());
+        self.bytes.extend(size.to_be_bytes());
+        self.commands += 1;
+        self
+    }
+
     /// Make the commands after it belong to this production, or to that of this
     /// number. A stream starts in the first.
     ///
@@ -205,15 +237,24 @@ pub enum Answer {
     Placed {
         /// The bin's number, from 1 in each production.
         bin: u16,
-        /// The units left free on the bin just after the item. Until another
-        /// command is answered this bin, an item that is permitted there fits
-        /// exactly if its stored size is at most this.
+        /// The units left free on the bin just after the item, which takes up its
+        /// greatest size if it has a range. Until another command is answered this
+        /// bin, an item that is permitted there fits exactly if its stored size is
+        /// at most this.
         free: u32,
     },
     /// The item was taken out of this bin.
     Withdrawn {
         /// The number of the bin that it left, as the command that shelved it
         /// was answered.
+        bin: u16,
+        /// The units free on the bin just after that.
+        free: u32,
+    },
+    /// The size of the item in this bin is settled.
+    Settled {
+        /// The number of the bin, as the command that shelved the item was
+        /// answered.
         bin: u16,
         /// The units free on the bin just after that.
         free: u32,
@@ -246,6 +287,11 @@ impl Answer {
     /// let withdraw = Command::Withdraw { number: 3 };
     /// let withdrawn = Answer::Withdrawn { bin: 7, free: 60 };
     /// assert_eq!(Answer::to(withdraw, 7, 60), Some(withdrawn));
+    /// let reserve = Command::Reserve { least: 30, greatest: 35 };
+    /// assert_eq!(Answer::to(reserve, 7, 25), Some(placed));
+    /// let settle = Command::Settle { number: 3, size: 31 };
+    /// let settled = Answer::Settled { bin: 7, free: 29 };
+    /// assert_eq!(Answer::to(settle, 7, 29), Some(settled));
     /// let switch = Command::Switch(Production::Second);
     /// let switched = Answer::Switched(Production::Second);
     /// assert_eq!(Answer::to(switch, 1, 0), Some(switched));
@@ -265,18 +311,18 @@ impl Answer {
             _ if word & REFUSED != 0 => {
                 let number = word & !REFUSED;
                 let why = CommandRefusal::from_number(number.into())?;
-                let withdraws = matches!(command, Command::Withdraw { .. });
-                if withdraws != (why == CommandRefusal::NotShelved) {
-                    return None;
-                }
-                Self::Refused(why)
+                Self::Refused(Some(why).filter(|&why| command.may_be_refused(why))?)
             }
-            Command::Shelve { .. } => {
+            Command::Shelve { .. } | Command::Reserve { .. } => {
                 return (word != 0).then_some(Self::Placed { bin: word, free });
             }
             // The units that the item took up are free at least.
             Command::Withdraw { .. } => {
                 return (word != 0 && free != 0).then_some(Self::Withdrawn { bin: word, free });
+            }
+            // One that is settled at its greatest leaves a full bin full.
+            Command::Settle { .. } => {
+                return (word != 0).then_some(Self::Settled { bin: word, free });
             }
         };
         (free == 0).then_some(answer)
@@ -300,6 +346,34 @@ pub enum Command {
     },
     /// Make the commands after it belong to this production.
     Switch(Production),
+    /// Shelve an item whose size is known within a range only.
+    Reserve {
+        /// The least that it may be, without a trailer.
+        least: u32,
+        /// The greatest, by which it is shelved.
+        greatest: u32,
+    },
+    /// Tell the size of an item that has a range.
+    Settle {
+        /// The number of the command that shelved it.
+        number: u16,
+        /// The item's size, without a trailer.
+        size: u32,
+    },
+}
+
+impl Command {
+    /// Whether this is one of the refusals that the command can be answered.
+    fn may_be_refused(self, why: CommandRefusal) -> bool {
+        use CommandRefusal::*;
+        match self {
+            Self::Shelve { .. } => matches!(why, SizeZero | SizeAboveCapacity | StockSpent),
+            Self::Reserve { .. } => matches!(why, RangeWrong | SizeAboveCapacity | StockSpent),
+            Self::Withdraw { .. } => why == NotShelved,
+            Self::Settle { .. } => matches!(why, NotReserved | OutsideRange),
+            Self::Count | Self::Switch(_) => false,
+        }
+    }
 }
 
 /// The commands after the opening, each with the offset of its byte. They end
@@ -311,12 +385,15 @@ pub enum Command {
 ///
 /// let mut stream = StreamBuilder::open(60, 4, 6);
 /// stream.shelve(35).count().withdraw(1).switch(Production::Second);
+/// stream.reserve(30, 40).settle(5, 34);
 /// let commands: Vec<_> = shelf::commands(stream.bytes()).collect();
 /// assert_eq!(commands, [
 ///     (8, Command::Shelve { size: 35 }),
 ///     (13, Command::Count),
 ///     (14, Command::Withdraw { number: 1 }),
 ///     (17, Command::Switch(Production::Second)),
+///     (19, Command::Reserve { least: 30, greatest: 40 }),
+///     (28, Command::Settle { number: 5, size: 34 }),
 /// ]);
 /// ```
 pub fn commands(stream: &[u8]) -> Commands<'_> {
@@ -371,6 +448,16 @@ impl Iterator for Commands<'_> {
             }
             [SWITCH, number, ref rest @ ..] => {
                 (Command::Switch(Production::from_number(number)?), rest)
+            }
+            [RESERVE, a, b, c, d, e, f, g, h, ref rest @ ..] => {
+                let least = u32::from_be_bytes([a, b, c, d]);
+                let greatest = u32::from_be_bytes([e, f, g, h]);
+                (Command::Reserve { least, greatest }, rest)
+            }
+            [SETTLE, a, b, c, d, e, f, ref rest @ ..] => {
+                let number = u16::from_be_bytes([a, b]);
+                let size = u32::from_be_bytes([c, d, e, f]);
+                (Command::Settle { number, size }, rest)
             }
             _ => return None,
         };
@@ -439,18 +526,41 @@ mod tests {
 
     #[test]
     fn each_command_has_its_own_refusals() {
-        let words = [8, 9, 10, 17, 11, 7].map(|number| (REFUSED | number, 0));
-        let refused = |why| Some(Answer::Refused(why));
-        use CommandRefusal::{NotShelved, SizeAboveCapacity, SizeZero, StockSpent};
-        let of_item = [SizeZero, SizeAboveCapacity, StockSpent].map(refused);
-        let shelve = Command::Shelve { size: 1 };
-        assert_eq!(read(shelve, &words), [&of_item[..], &[None; 3]].concat());
-        let of_withdrawal = [None, None, None, refused(NotShelved), None, None];
-        let withdraw = Command::Withdraw { number: 1 };
-        assert_eq!(read(withdraw, &words), of_withdrawal);
-        let beside = words.map(|(word, _)| (word, 1));
-        assert_eq!(read(shelve, &beside), [None; 6]);
-        assert_eq!(read(withdraw, &beside), [None; 6]);
+        let numbers = [8, 9, 10, 17, 19, 20, 21, 7, 11, 18, 22];
+        let commands: [(Command, &[u16]); 6] = [
+            (Command::Shelve { size: 1 }, &[8, 9, 10]),
+            (Command::Count, &[]),
+            (Command::Withdraw { number: 1 }, &[17]),
+            (Command::Switch(Production::First), &[]),
+            (
+                Command::Reserve {
+                    least: 1,
+                    greatest: 2,
+                },
+                &[9, 10, 19],
+            ),
+            (Command::Settle { number: 1, size: 1 }, &[20, 21]),
+        ];
+        for (command, own) in commands {
+            for number in numbers {
+                let why = CommandRefusal::from_number(number.into());
+                let refused = why.filter(|_| own.contains(&number)).map(Answer::Refused);
+                let read = |free: u32| Answer::to(command, REFUSED | number, free);
+                // A count has no refusals, and no limits here.
+                if command != Command::Count {
+                    assert_eq!(read(0), refused, "{command:?}, {number}");
+                }
+                assert_eq!(read(1), None, "{command:?}, {number}");
+            }
+        }
+    }
+
+    #[test]
+    fn a_settling_may_leave_a_full_bin() {
+        let settle = Command::Settle { number: 9, size: 1 };
+        let settled = |free: u32| Some(Answer::Settled { bin: 3, free });
+        let words = [(3, 1), (3, 0), (0, 1)];
+        assert_eq!(read(settle, &words), [settled(1), settled(0), None]);
     }
 
     #[test]
@@ -502,6 +612,27 @@ mod tests {
         assert_eq!(read(11), [withdraw]);
         assert_eq!(read(10), []);
         assert_eq!(read(9), []);
+    }
+
+    #[test]
+    fn two_operands_are_read_in_their_order_and_whole() {
+        let (least, greatest) = (0x0102_0304, 0x0506_0708);
+        let (number, size) = (0x090A, 0x0B0C_0D0E);
+        let mut stream = StreamBuilder::open(60, 4, 6);
+        stream.reserve(least, greatest).settle(number, size).count();
+        let bytes = stream.bytes();
+        let written = [6, 1, 2, 3, 4, 5, 6, 7, 8, 7, 9, 10, 11, 12, 13, 14, 3];
+        assert_eq!(bytes[8..], written);
+        let all = [
+            (8, Command::Reserve { least, greatest }),
+            (17, Command::Settle { number, size }),
+            (24, Command::Count),
+        ];
+        for len in 8..=bytes.len() {
+            let whole = [17, 24, 25].iter().filter(|&&end| end <= len).count();
+            let read: Vec<_> = commands(&bytes[..len]).collect();
+            assert_eq!(read, all[..whole], "{len} bytes");
+        }
     }
 
     #[test]

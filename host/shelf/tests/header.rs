@@ -70,6 +70,6 @@ fn the_refusals_are_the_same() {
         assert_eq!(ours, [words[name]], "{name}");
         numbers.push(number);
     }
-    assert_eq!(numbers, (1..=18).collect::<Vec<u32>>());
+    assert_eq!(numbers, (1..=21).collect::<Vec<u32>>());
     assert_eq!(words.len(), numbers.len());
 }

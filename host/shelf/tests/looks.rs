@@ -27,7 +27,10 @@ fn a_search_takes_one_look_or_the_most() {
             .shelve(61)
             .count()
             .withdraw(1)
-            .switch(First);
+            .switch(First)
+            .reserve(0, 30)
+            .reserve(1, 61)
+            .settle(6, 1);
         assert_eq!(looks(&stream), 0, "nothing is searched for");
         stream.shelve(30);
         assert_eq!(looks(&stream), 1, "nothing fits");
@@ -36,6 +39,21 @@ fn a_search_takes_one_look_or_the_most() {
         // The figure is the largest, neither the last nor a sum.
         stream.shelve(60).shelve(60).count();
         assert_eq!(looks(&stream), most_looks(stock));
+    }
+}
+
+#[test]
+fn an_item_with_a_range_is_searched_for_once() {
+    for stock in [1, 2, 3, 8, MAX_STOCK] {
+        let mut stream = StreamBuilder::open(60, stock, 6);
+        stream.reserve(1, 60).settle(1, 1);
+        assert_eq!(
+            looks(&stream),
+            1,
+            "nothing fits, and a settling makes no search"
+        );
+        stream.reserve(59, 59);
+        assert_eq!(looks(&stream), most_looks(stock), "beside the settled one");
     }
 }
 

@@ -4,7 +4,7 @@ use std::fmt::{self, Write};
 
 use shelf::Row;
 
-use crate::packing::{Bin, Packing, OF_BOTH};
+use crate::packing::{Packing, OF_BOTH};
 
 const COLUMNS: usize = 80;
 /// Columns before the bar, and those of the bar within its frame.
@@ -22,7 +22,7 @@ impl fmt::Display for Drawing<'_> {
         writeln!(
             f,
             "{items} masters in {bins} cartridges, {used} of {units} units; {}",
-            packing.elsewhere()
+            packing.besides()
         )?;
         if packing.bins.is_empty() {
             return Ok(());
@@ -37,10 +37,11 @@ impl fmt::Display for Drawing<'_> {
                 class, load, free, ..
             } = bin.row;
             let name = packing.name(bin);
-            let bar = bar(bin, packing.opening.capacity);
+            let stored: Vec<u64> = bin.items.iter().map(|item| packing.stored(item)).collect();
+            let bar = bar(&stored, shade(class), packing.opening.capacity);
             writeln!(f, "{name:>5}{class:>6}{load:>9}{free:>9} │{bar}│")?;
-            if !bin.items.is_empty() {
-                write_items(f, bin)?;
+            if !stored.is_empty() {
+                write_items(f, &stored)?;
             }
         }
         Ok(())
@@ -57,15 +58,15 @@ fn shade(class: u8) -> char {
     }
 }
 
-/// The items from left to right, each as long as its share of the capacity.
-fn bar(bin: &Bin, capacity: u32) -> String {
+/// The items of these stored sizes from left to right, each as long as its share
+/// of the capacity.
+fn bar(stored: &[u64], shade: char, capacity: u32) -> String {
     let cells = |units: u64| (units * BAR as u64 / u64::from(capacity)) as usize;
-    let shade = shade(bin.row.class);
     let mut bar = String::new();
     let mut end = 0;
     let mut drawn = 0;
-    for item in &bin.items {
-        end += item.stored;
+    for size in stored {
+        end += size;
         for cell in drawn..cells(end) {
             // A line parts an item from the one before, where there is room.
             let parts = cell == drawn && drawn > 0 && cells(end) - drawn > 1;
@@ -78,10 +79,10 @@ fn bar(bin: &Bin, capacity: u32) -> String {
 }
 
 /// The stored sizes under the bar, runs of one size as `SIZExTIMES`.
-fn write_items(f: &mut fmt::Formatter<'_>, bin: &Bin) -> fmt::Result {
+fn write_items(f: &mut fmt::Formatter<'_>, stored: &[u64]) -> fmt::Result {
     let mut line = String::new();
-    for run in bin.items.chunk_by(|a, b| a.stored == b.stored) {
-        let mut word = run[0].stored.to_string();
+    for run in stored.chunk_by(|a, b| a == b) {
+        let mut word = run[0].to_string();
         if run.len() > 1 {
             write!(word, "x{}", run.len())?;
         }

@@ -61,12 +61,23 @@ fn answer(number: usize, answered: Answered) -> String {
     } = answered;
     let operand = match (command, answer) {
         (Command::Shelve { size }, _) => format!(", \"size\": {size}"),
+        (Command::Reserve { least, greatest }, _) => {
+            format!(", \"least\": {least}, \"greatest\": {greatest}")
+        }
         (Command::Count | Command::Switch(_), _) => String::new(),
         (Command::Withdraw { number }, Answer::Refused(_)) => format!(", \"withdraw\": {number}"),
         (Command::Withdraw { number }, _) => format!(", \"withdrawn\": {number}"),
+        (Command::Settle { number, size }, Answer::Refused(_)) => {
+            format!(", \"settle\": {number}, \"size\": {size}")
+        }
+        (Command::Settle { number, size }, _) => {
+            format!(", \"settled\": {number}, \"size\": {size}")
+        }
     };
     let result = match answer {
-        Answer::Placed { bin, free } | Answer::Withdrawn { bin, free } => {
+        Answer::Placed { bin, free }
+        | Answer::Withdrawn { bin, free }
+        | Answer::Settled { bin, free } => {
             format!("\"cartridge\": {bin}, \"free\": {free}")
         }
         Answer::Counted { opened } => format!("\"count\": {opened}"),
@@ -91,7 +102,7 @@ fn cartridges(packing: &Packing) -> String {
             held,
         } = bin.row;
         let production = production.number();
-        let commands: Vec<usize> = bin.commands().collect();
+        let commands: Vec<u16> = bin.commands().collect();
         format!(
             "{{\"production\": {production}, \"number\": {number}, \"class\": {class}, \
              \"load\": {load}, \"free\": {free}, \"held\": {held}, \"commands\": {commands:?}}}"
@@ -141,6 +152,8 @@ mod tests {
         stream.shelve(35).shelve(61).count();
         stream.withdraw(1).withdraw(1).shelve(40);
         stream.switch(Production::Second).withdraw(6).count();
+        stream.switch(Production::First).reserve(9, 20);
+        stream.reserve(10, 9).settle(6, 40).settle(11, 5);
         let source = Source::raw(stream.into_bytes());
         let outcome = Outcome::of(&source);
         let expected = r#"{
@@ -155,7 +168,12 @@ mod tests {
 {"command": 6, "production": 0, "size": 40, "cartridge": 1, "free": 20},
 {"command": 7, "production": 0, "switched": 1},
 {"command": 8, "production": 1, "withdraw": 6, "refusal": 17, "reason": "no master of that number is on the shelf"},
-{"command": 9, "production": 1, "count": 0}
+{"command": 9, "production": 1, "count": 0},
+{"command": 10, "production": 1, "switched": 0},
+{"command": 11, "production": 0, "least": 9, "greatest": 20, "refusal": 10, "reason": "a new cartridge is called for and the stock is spent"},
+{"command": 12, "production": 0, "least": 10, "greatest": 9, "refusal": 19, "reason": "the least size is 0 or above the greatest"},
+{"command": 13, "production": 0, "settle": 6, "size": 40, "refusal": 20, "reason": "no master of that number waits to be settled"},
+{"command": 14, "production": 0, "settle": 11, "size": 5, "refusal": 20, "reason": "no master of that number waits to be settled"}
 ],
 "totals": {"masters": 1, "cartridges": 1, "looks": 1},
 "cartridges": [
@@ -164,6 +182,23 @@ mod tests {
 }
 "#;
         assert_eq!(object(&outcome, &[]), expected);
+    }
+
+    #[test]
+    fn a_settled_master_has_its_size() {
+        let mut stream = shelf::StreamBuilder::open(60, 1, 6);
+        stream.reserve(9, 40).settle(1, 41).settle(1, 35);
+        let shelved = Shelved::of(stream.bytes()).unwrap();
+        let expected = [
+            r#"{"command": 1, "production": 0, "least": 9, "greatest": 40, "cartridge": 1, "free": 20}"#,
+            r#"{"command": 2, "production": 0, "settle": 1, "size": 41, "refusal": 21, "reason": "the size is outside the master's range"}"#,
+            r#"{"command": 3, "production": 0, "settled": 1, "size": 35, "cartridge": 1, "free": 25}"#,
+        ];
+        let numbered = (1..).zip(&shelved.answers);
+        let answers = numbered.map(|(number, &answered)| answer(number, answered));
+        assert_eq!(answers.collect::<Vec<String>>(), expected);
+        let cartridge = r#"{"production": 0, "number": 1, "class": 1, "load": 35, "free": 25, "held": 1, "commands": [1]}"#;
+        assert_eq!(cartridges(&shelved.packing), format!("[\n{cartridge}\n]"));
     }
 
     #[test]

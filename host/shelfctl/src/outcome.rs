@@ -1,6 +1,6 @@
 //! What the library makes of a stream, in lines and in words.
 
-use shelf::{Answer, Command, Production, StreamRefusal, Totals, MAX_COMMANDS};
+use shelf::{Answer, Command, Items, Production, StreamRefusal, Totals, MAX_COMMANDS};
 
 use crate::packing::Packing;
 use crate::source::{Source, MAX_STREAM};
@@ -73,7 +73,8 @@ impl Shelved {
                 answer,
             })
             .collect();
-        let packing = Packing::of(stream, &answers);
+        let items = Items::after(stream, &words, &free);
+        let packing = Packing::of(stream, &answers, &items);
         Ok(Self {
             answers,
             totals,
@@ -88,6 +89,7 @@ impl Shelved {
                 Answer::Placed { bin, free } => format!("P {number} {bin} {free}\n"),
                 Answer::Counted { opened } => format!("C {number} {opened}\n"),
                 Answer::Withdrawn { bin, .. } => format!("O {number} {bin}\n"),
+                Answer::Settled { bin, .. } => format!("F {number} {bin}\n"),
                 Answer::Switched(production) => format!("S {number} {}\n", production.number()),
                 Answer::Refused(refusal) => format!("R {number} {}\n", refusal.number()),
             };

@@ -1,21 +1,12 @@
 //! The shelves of both productions after a stream: what its sheet says of each
 //! cartridge, and the masters that the answers leave there.
 
-use shelf::{Answer, Command, Opening, Production, Row};
+use shelf::{Answer, Command, Item, Items, Opening, Production, Row};
 
 use crate::outcome::Answered;
 
 /// Said once where both productions may have cartridges.
 pub const OF_BOTH: &str = "cartridges are PRODUCTION:NUMBER";
-
-pub struct Item {
-    /// The number of the command that shelved it.
-    pub command: usize,
-    /// As the command has it.
-    pub size: u32,
-    /// What it takes up: its size and the trailer.
-    pub stored: u64,
-}
 
 pub struct Bin {
     /// Its line of the sheet.
@@ -25,7 +16,7 @@ pub struct Bin {
 
 impl Bin {
     /// The numbers of the commands that its items came with.
-    pub fn commands(&self) -> impl Iterator<Item = usize> + '_ {
+    pub fn commands(&self) -> impl Iterator<Item = u16> + '_ {
         self.items.iter().map(|item| item.command)
     }
 }
@@ -38,43 +29,38 @@ pub struct Packing {
     pub refused: usize,
     /// The masters taken out again.
     pub withdrawn: usize,
+    /// Those on the shelf whose size is not settled yet.
+    unsettled: usize,
 }
 
 impl Packing {
-    /// The packing that an accepted stream left, by its answers.
-    pub fn of(stream: &[u8], answers: &[Answered]) -> Self {
+    /// The packing that an accepted stream left, by its answers and the items that
+    /// these leave.
+    pub fn of(stream: &[u8], answers: &[Answered], items: &Items) -> Self {
         let opening = Opening::read(stream).expect("an accepted stream has an opening");
         let sheet = shelf::sheet(stream);
         let bin = |&row: &Row| Bin {
             row,
             items: Vec::new(),
         };
+        let count = |counts: fn(&Answered) -> bool| answers.iter().filter(|&a| counts(a)).count();
         let mut packing = Self {
             opening,
             bins: sheet.rows().iter().map(bin).collect(),
-            refused: 0,
-            withdrawn: 0,
+            refused: count(is_refused_master),
+            withdrawn: count(|answered| matches!(answered.answer, Answer::Withdrawn { .. })),
+            unsettled: items.iter().filter(|item| item.least.is_some()).count(),
         };
-        for (command, answered) in (1..).zip(answers) {
-            let production = answered.production;
-            match (answered.command, answered.answer) {
-                (Command::Shelve { size }, Answer::Placed { bin, .. }) => {
-                    packing.bin(production, bin).items.push(Item {
-                        command,
-                        size,
-                        stored: opening.stored(size),
-                    });
-                }
-                (Command::Shelve { .. }, Answer::Refused(_)) => packing.refused += 1,
-                (Command::Withdraw { number }, Answer::Withdrawn { bin, .. }) => {
-                    let bin = packing.bin(production, bin);
-                    bin.items.retain(|item| item.command != number.into());
-                    packing.withdrawn += 1;
-                }
-                _ => {}
-            }
+        for item in items.iter() {
+            let bin = packing.bin(item.production, item.bin);
+            bin.items.push(*item);
         }
         packing
+    }
+
+    /// What an item takes up, its trailer included.
+    pub fn stored(&self, item: &Item) -> u64 {
+        self.opening.stored(item.size)
     }
 
     /// The bin of this number.
@@ -118,14 +104,16 @@ impl Packing {
         }
     }
 
-    /// What is on no cartridge: how many masters were refused, and how many were
-    /// taken out again, if any.
-    pub fn elsewhere(&self) -> String {
-        let refused = format!("{} refused", self.refused);
-        match self.withdrawn {
-            0 => refused,
-            withdrawn => format!("{refused}, {withdrawn} withdrawn"),
+    /// How many masters were refused, and if any, how many were taken out again and
+    /// how many count by their greatest size.
+    pub fn besides(&self) -> String {
+        let mut besides = format!("{} refused", self.refused);
+        for (masters, what) in [(self.withdrawn, "withdrawn"), (self.unsettled, "unsettled")] {
+            if masters > 0 {
+                besides += &format!(", {masters} {what}");
+            }
         }
+        besides
     }
 
     pub fn items(&self) -> usize {
@@ -142,6 +130,14 @@ impl Packing {
     }
 }
 
+fn is_refused_master(answered: &Answered) -> bool {
+    let of_master = matches!(
+        answered.command,
+        Command::Shelve { .. } | Command::Reserve { .. }
+    );
+    of_master && matches!(answered.answer, Answer::Refused(_))
+}
+
 #[cfg(test)]
 mod tests {
     use super::*;
@@ -150,9 +146,18 @@ mod tests {
 
     /// A packing and its totals: every third command takes out what a command
     /// before it shelved, or nothing; or goes to the other production, or stays.
+    /// Half of the masters have a range, and half of these are settled.
     fn packing(mut stream: StreamBuilder, withdrawals: bool, switches: bool) -> (Packing, Totals) {
         for i in 0..600 {
-            stream.shelve(i * 37 % 1_010).count();
+            let size = i * 37 % 1_010;
+            match i % 4 {
+                0..=1 => stream.shelve(size).count(),
+                2 => stream.reserve(size / 3 + 1, size).count(),
+                _ => {
+                    let number = stream.reserve(size / 3 + 1, size).commands();
+                    stream.settle(number as u16, size / 2)
+                }
+            };
             if withdrawals {
                 stream.withdraw((i * 71 % (3 * i + 5)) as u16);
             }
@@ -188,7 +193,7 @@ mod tests {
                 number = if row.number == 1 { 1 } else { number + 1 };
                 assert_eq!(row.number, number);
                 assert_eq!(usize::from(row.held), items.len());
-                let load: u64 = items.iter().map(|item| item.stored).sum();
+                let load: u64 = items.iter().map(|item| packing.stored(item)).sum();
                 assert_eq!(u64::from(row.load), load);
             }
         }
@@ -198,10 +203,18 @@ mod tests {
     fn refused_withdrawals_are_no_masters() {
         let mut stream = StreamBuilder::open(60, 4, 6);
         stream.shelve(35).shelve(61).withdraw(2).withdraw(4);
-        let packing = Shelved::of(stream.bytes()).unwrap().packing;
-        assert_eq!(packing.elsewhere(), "1 refused");
+        let besides = |stream: &StreamBuilder| {
+            let Shelved { packing, .. } = Shelved::of(stream.bytes()).unwrap();
+            packing.besides()
+        };
+        assert_eq!(besides(&stream), "1 refused");
         stream.withdraw(1);
-        let packing = Shelved::of(stream.bytes()).unwrap().packing;
-        assert_eq!(packing.elsewhere(), "1 refused, 1 withdrawn");
+        assert_eq!(besides(&stream), "1 refused, 1 withdrawn");
+        stream.reserve(2, 1).settle(6, 1).settle(1, 35);
+        assert_eq!(besides(&stream), "2 refused, 1 withdrawn");
+        let range = stream.reserve(1, 2).commands() as u16;
+        assert_eq!(besides(&stream), "2 refused, 1 withdrawn, 1 unsettled");
+        stream.settle(range, 2);
+        assert_eq!(besides(&stream), "2 refused, 1 withdrawn");
     }
 }

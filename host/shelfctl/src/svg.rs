@@ -121,7 +121,7 @@ fn header(f: &mut fmt::Formatter<'_>, packing: &Packing) -> fmt::Result {
         "<text class=\"note\" x=\"{MARGIN}\" y=\"68\">{}; \
          {used} of {units} units in use, {share} %; {}</text>",
         packing.opened_with(),
-        packing.elsewhere(),
+        packing.besides(),
     )?;
     let mut x = MARGIN;
     for class in 1..=4 {
@@ -197,12 +197,13 @@ fn row(
     let scale = f64::from(bar) / f64::from(packing.opening.capacity);
     let mut start = 0;
     for item in &bin.items {
+        let stored = packing.stored(item);
         let x = f64::from(left) + start as f64 * scale;
-        let width = item.stored as f64 * scale;
+        let width = stored as f64 * scale;
         // A hair of background parts the items.
         let shown = if width > 3.0 { width - 1.0 } else { width };
         let radius = if width > 10.0 { 4 } else { 0 };
-        let size = item.stored.to_string();
+        let size = stored.to_string();
         let mut label = String::new();
         if f64::from(size.len() as u32) * 6.5 + 6.0 < width {
             let centre = x + shown / 2.0;
@@ -216,10 +217,10 @@ fn row(
             "<g><title>command {}: {}</title><rect x=\"{x:.2}\" y=\"{top}\" \
              width=\"{shown:.2}\" height=\"{BAR_HEIGHT}\" rx=\"{radius}\" fill=\"{}\"/>{label}</g>",
             item.command,
-            words::units(packing.opening, item.size),
+            words::units(packing.opening, item.least, item.size),
             colour(class),
         )?;
-        start += item.stored;
+        start += stored;
     }
     writeln!(
         f,

@@ -8,6 +8,9 @@ use crate::source::Source;
 /// How a stream is opened in a text.
 const OPEN: &str = "open capacity stock m [trailer]";
 
+/// What a command can be numbered.
+const NUMBERS: Option<(u64, u64)> = Some((1, MAX_COMMANDS as u64));
+
 /// What is wrong with a text, and where.
 #[derive(Debug, PartialEq, Eq)]
 pub struct BadText {
@@ -102,7 +105,8 @@ impl<'a> Line<'a> {
 
 /// Writes the stream of a text with one command a line: `open CAPACITY STOCK M`
 /// or `open CAPACITY STOCK M TRAILER`, then `shelve SIZE`, `count`, `withdraw
-/// NUMBER` and `production NUMBER`. `#` starts a comment.
+/// NUMBER`, `production NUMBER`, `reserve LEAST GREATEST` and `settle NUMBER SIZE`.
+/// `#` starts a comment.
 pub fn read_text(text: &[u8]) -> Result<Source, BadText> {
     let mut stream: Option<StreamBuilder> = None;
     let mut places = Vec::new();
@@ -127,8 +131,7 @@ pub fn read_text(text: &[u8]) -> Result<Source, BadText> {
             }
             "withdraw" => {
                 let [number] = line.operands(["number"])?;
-                let numbers = (1, MAX_COMMANDS as u64);
-                let number = line.value("number", number, Some(numbers))?;
+                let number = line.value("number", number, NUMBERS)?;
                 opened(&mut stream, line.number)?.withdraw(number);
             }
             "production" => {
@@ -136,8 +139,20 @@ pub fn read_text(text: &[u8]) -> Result<Source, BadText> {
                 let number: u8 = line.value("production", number, Some((0, 1)))?;
                 opened(&mut stream, line.number)?.switch(number);
             }
+            "reserve" => {
+                let [least, greatest] = line.operands(["least", "greatest"])?;
+                let least = line.value("least", least, None)?;
+                let greatest = line.value("greatest", greatest, None)?;
+                opened(&mut stream, line.number)?.reserve(least, greatest);
+            }
+            "settle" => {
+                let [number, size] = line.operands(["number", "size"])?;
+                let number = line.value("number", number, NUMBERS)?;
+                let size = line.value("size", size, None)?;
+                opened(&mut stream, line.number)?.settle(number, size);
+            }
             other => {
-                let commands = "open, shelve, count, withdraw or production";
+                let commands = "open, shelve, count, withdraw, production, reserve or settle";
                 let message = format!("`{other}` is no command: {commands}");
                 return bad(line.number, message);
             }
@@ -232,6 +247,14 @@ mod tests {
     }
 
     #[test]
+    fn a_range_and_its_settling_have_two_operands() {
+        let text = b"open 60 4 6\nreserve 258 772\nsettle 1 515\nreserve 0 4294967295";
+        let stream = [1, 0, 0, 0, 60, 0, 4, 6, 6, 0, 0, 1, 2, 0, 0, 3, 4];
+        let after = [7, 0, 1, 0, 0, 2, 3, 6, 0, 0, 0, 0, 255, 255, 255, 255];
+        assert_eq!(bytes(text).unwrap(), [&stream[..], &after].concat());
+    }
+
+    #[test]
     fn a_trailer_has_an_opening_of_its_own() {
         let opening = [0x11, 0, 0, 0, 60, 0, 4, 6];
         for (trailer, written) in [("0", [0, 0]), ("3", [0, 3]), ("65535", [255, 255])] {
@@ -290,6 +313,15 @@ mod tests {
             assert_eq!(fault(&format!("open 60 4 6\nproduction{production}")).0, 2);
         }
         assert_eq!(fault("\nproduction 1").0, 2);
+        for operands in ["", " 1", " 1 2 3", " x 2", " 1 x", " -1 2", " 1 4294967296"] {
+            for command in ["reserve", "settle"] {
+                assert_eq!(fault(&format!("open 60 4 6\n{command}{operands}")).0, 2);
+            }
+        }
+        assert_eq!(fault("\nreserve 1 2").0, 2);
+        assert_eq!(fault("\nsettle 1 2").0, 2);
+        let too_large = fault("open 60 4 6\nsettle 65536 1");
+        assert!(too_large.1.ends_with("from 1 to 4096"), "{too_large:?}");
         let too_large = fault("open 60 4 6\nproduction 256");
         assert!(too_large.1.ends_with("from 0 to 1"), "{too_large:?}");
         assert_eq!(fault("open 60 65536 6").0, 1);

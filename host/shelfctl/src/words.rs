@@ -1,11 +1,10 @@
 //! Refusals in words, for people: each sentence starts with its place.
 
-use std::collections::HashMap;
 use std::fmt::Display;
 
 use shelf::{
-    Answer, Command, Opening, Production, StreamFault, StreamRefusal, MAX_CAPACITY, MAX_COMMANDS,
-    MAX_M, MAX_STOCK, MIN_M,
+    Answer, Command, CommandRefusal, Items, Opening, Production, StreamFault, StreamRefusal,
+    MAX_CAPACITY, MAX_COMMANDS, MAX_M, MAX_STOCK, MIN_M,
 };
 
 use crate::outcome::{Answered, Shelved};
@@ -21,7 +20,7 @@ pub fn of_stream(source: &Source, refusal: StreamRefusal) -> Vec<String> {
         StreamFault::UnknownCommand => {
             let byte = source.bytes[refusal.offset];
             vec![format!(
-                "there is no command {byte:02X}: only 01, 02, 03, 04, 05 and 11"
+                "there is no command {byte:02X}: only 01 to 07 and 11"
             )]
         }
         StreamFault::CutShort => {
@@ -84,17 +83,24 @@ pub fn of_length(source: &Source) -> Vec<String> {
     if !source.is_text() {
         return vec![long];
     }
-    // So long a text has too many commands as well, and its author counts those.
+    // If so long a text has too many commands as well, its author counts those.
     let next = shelf::commands(&source.bytes).nth(MAX_COMMANDS);
     let many = next.map(|(offset, _)| format!("{}: {}", source.spot(offset), too_many_commands()));
     many.into_iter().chain([long]).collect()
 }
 
-/// How large a master is, and where there is a trailer, what it takes up.
-pub fn units(opening: Opening, size: u32) -> String {
-    match opening.trailer {
-        0 => format!("{size} units"),
-        _ => format!("{size} units, {} with its trailer", opening.stored(size)),
+/// How large a master is, and where there is a trailer, what it takes up; from the
+/// least to this size, where its size is not known yet.
+pub fn units(opening: Opening, least: Option<u32>, size: u32) -> String {
+    let units = match least {
+        None => format!("{size} units"),
+        Some(least) => format!("{least} to {size} units"),
+    };
+    let stored = opening.stored(size);
+    match (opening.trailer, least.map(|least| opening.stored(least))) {
+        (0, _) => units,
+        (_, None) => format!("{units}, {stored} with its trailer"),
+        (_, Some(least)) => format!("{units}, {least} to {stored} with its trailer"),
     }
 }
 
@@ -102,8 +108,7 @@ pub fn units(opening: Opening, size: u32) -> String {
 pub fn of_commands(source: &Source, shelved: &Shelved) -> Vec<String> {
     let mut sentences = Vec::new();
     let mut more = 0;
-    // The production of each master on the shelf, by its command.
-    let mut masters: HashMap<u16, Production> = HashMap::new();
+    let mut items = Items::default();
     let offsets = shelf::commands(&source.bytes).map(|(offset, _)| offset);
     for (number, (answered, offset)) in (1..).zip(shelved.answers.iter().zip(offsets)) {
         let Answered {
@@ -111,33 +116,17 @@ pub fn of_commands(source: &Source, shelved: &Shelved) -> Vec<String> {
             command,
             answer,
         } = *answered;
-        let (what, refusal, why) = match (command, answer) {
-            (Command::Shelve { size }, Answer::Refused(why)) => {
-                let units = units(shelved.packing.opening, size);
-                (format!("the master of {units}"), why, why.to_string())
-            }
-            (Command::Withdraw { number }, Answer::Refused(why)) => {
-                let words = match masters.get(&number) {
-                    Some(other) => format!("that master is production {}'s", other.number()),
-                    None => why.to_string(),
-                };
-                (format!("the withdrawal of {number}"), why, words)
-            }
-            (_, Answer::Placed { .. }) => {
-                masters.insert(number, production);
-                continue;
-            }
-            (Command::Withdraw { number }, _) => {
-                masters.remove(&number);
-                continue;
-            }
-            _ => continue,
+        items.take_in(production, command, answer);
+        let Answer::Refused(refusal) = answer else {
+            continue;
         };
         if sentences.len() == MOST_COMMANDS {
             more += 1;
             continue;
         }
         let spot = source.spot(offset);
+        let what = called(command, shelved.packing.opening);
+        let why = reason(command, production, refusal, &items);
         let refusal = refusal.number();
         sentences.push(format!(
             "{spot}: {what} (command {number}) was refused with {refusal}: {why}"
@@ -149,6 +138,44 @@ pub fn of_commands(source: &Source, shelved: &Shelved) -> Vec<String> {
         more => sentences.push(format!("... and {more} more refused commands")),
     }
     sentences
+}
+
+/// What a command that can be refused is called.
+fn called(command: Command, opening: Opening) -> String {
+    match command {
+        Command::Shelve { size } => format!("the master of {}", units(opening, None, size)),
+        Command::Reserve { least, greatest } => {
+            format!("the master of {}", units(opening, Some(least), greatest))
+        }
+        Command::Withdraw { number } => format!("the withdrawal of {number}"),
+        Command::Settle { number, size } => format!("the settling of {number} at {size} units"),
+        Command::Count | Command::Switch(_) => String::new(),
+    }
+}
+
+/// Why it was refused, where these items are on the shelf: where the one that it
+/// names is among them, in more words than the refusal has.
+fn reason(
+    command: Command,
+    production: Production,
+    refusal: CommandRefusal,
+    items: &Items,
+) -> String {
+    let named = match command {
+        Command::Withdraw { number } | Command::Settle { number, .. } => items.get(number),
+        _ => None,
+    };
+    match (named, refusal) {
+        (Some(item), _) if item.production != production => {
+            format!("that master is production {}'s", item.production.number())
+        }
+        (Some(item), CommandRefusal::OutsideRange) => {
+            let least = item.least.unwrap_or(item.size);
+            format!("{refusal}, {least} to {}", item.size)
+        }
+        (Some(_), CommandRefusal::NotReserved) => "the size of that master is settled".to_string(),
+        _ => refusal.to_string(),
+    }
 }
 
 #[cfg(test)]
@@ -176,8 +203,16 @@ mod tests {
             ["byte 0: the stream starts with 6F; it must start with the opening, 01 or 11"]
         );
         assert_eq!(
-            refused(&[1, 0, 0, 0, 60, 0, 4, 6, 3, 7]),
-            ["byte 9: there is no command 07: only 01, 02, 03, 04, 05 and 11"]
+            refused(&[1, 0, 0, 0, 60, 0, 4, 6, 3, 8]),
+            ["byte 9: there is no command 08: only 01 to 07 and 11"]
+        );
+        assert_eq!(
+            refused(&[1, 0, 0, 0, 60, 0, 4, 6, 3, 6, 0, 0, 0, 5, 0, 0, 0]),
+            ["byte 9: the stream ends before the operands of 06 do"]
+        );
+        assert_eq!(
+            refused(&[1, 0, 0, 0, 60, 0, 4, 6, 3, 7, 0, 1, 0, 0, 0]),
+            ["byte 9: the stream ends before the operands of 07 do"]
         );
         assert_eq!(
             refused(&[1, 0, 0, 0, 60, 0, 4, 6, 3, 5]),
@@ -270,6 +305,87 @@ mod tests {
                 refused(10, 2, 9, not_there),
             ]
         );
+    }
+
+    #[test]
+    fn a_refused_settling_is_explained() {
+        let text = "open 60 4 6\nreserve 30 40\nsettle 1 29\nsettle 1 41\nsettle 1 30\n\
+                    settle 1 30\nshelve 22\nsettle 6 22\nsettle 9 22\nreserve 2 9\n\
+                    production 1\nsettle 9 2\nsettle 6 22\nproduction 0\nwithdraw 9\nsettle 9 2";
+        let refused = |line: usize, named: usize, size: usize, number: usize, why: &str| {
+            let command = line - 1;
+            format!(
+                "line {line}: the settling of {named} at {size} units (command {command}) was \
+                 refused with {number}: {why}"
+            )
+        };
+        let outside = "the size is outside the master's range, 30 to 40";
+        let settled = "the size of that master is settled";
+        let not_there = "no master of that number waits to be settled";
+        let others = "that master is production 0's";
+        assert_eq!(
+            listed(text),
+            [
+                refused(3, 1, 29, 21, outside),
+                refused(4, 1, 41, 21, outside),
+                refused(6, 1, 30, 20, settled),
+                refused(8, 6, 22, 20, settled),
+                refused(9, 9, 22, 20, not_there),
+                refused(12, 9, 2, 20, others),
+                refused(13, 6, 22, 20, others),
+                refused(16, 9, 2, 20, not_there),
+            ]
+        );
+    }
+
+    #[test]
+    fn a_refused_range_is_told_with_both_sizes() {
+        let text = "open 60 1 6\nreserve 0 9\nreserve 9 8\nreserve 1 61\nshelve 35\nreserve 2 9";
+        let range = |line: usize, sizes: &str, number: usize, why: &str| {
+            let command = line - 1;
+            format!(
+                "line {line}: the master of {sizes} (command {command}) was refused with \
+                 {number}: {why}"
+            )
+        };
+        let wrong = "the least size is 0 or above the greatest";
+        let above = "size and trailer above the capacity";
+        let spent = "a new cartridge is called for and the stock is spent";
+        assert_eq!(
+            listed(text),
+            [
+                range(2, "0 to 9 units", 19, wrong),
+                range(3, "9 to 8 units", 19, wrong),
+                range(4, "1 to 61 units", 9, above),
+                range(6, "2 to 9 units", 10, spent),
+            ]
+        );
+        let text = "open 60 1 6 3\nreserve 0 9\nreserve 1 4294967295";
+        assert_eq!(
+            listed(text),
+            [
+                range(2, "0 to 9 units, 3 to 12 with its trailer", 19, wrong),
+                range(
+                    3,
+                    "1 to 4294967295 units, 4 to 4294967298 with its trailer",
+                    9,
+                    above
+                ),
+            ]
+        );
+    }
+
+    #[test]
+    fn a_text_may_be_too_long_without_too_many_commands() {
+        let long = "here the stream grows longer than 32768 bytes";
+        let text = |reserves: usize| {
+            let text = format!("open 60 4 6{}", "\nreserve 1 2".repeat(reserves));
+            let source = read_text(text.as_bytes()).unwrap_or_else(|_| panic!("a good text"));
+            of_length(&source)
+        };
+        assert_eq!(text(3641), [format!("line 3642: {long}")]);
+        let many = "line 4098: this is command 4097; at most 4096 may follow the opening";
+        assert_eq!(text(4097), [many.to_string(), format!("line 3642: {long}")]);
     }
 
     #[test]

@@ -11,13 +11,14 @@ use crate::looks_cases;
 use crate::paper::{size_class, SizeClass, Totals};
 use crate::plans::PlanTrial;
 use crate::production_cases;
+use crate::range_cases;
 use crate::rows::{self, Lent};
 use crate::sheet_cases;
 use crate::streams::StreamTrial;
 use crate::trailer_cases;
 use crate::walk::Program;
 use crate::walk_cases;
-use crate::wire::Command::{self, Count, Shelve, Switch, Withdraw};
+use crate::wire::Command::{self, Count, Reserve, Settle, Shelve, Switch, Withdraw};
 use crate::wire::{opening, refuse, refused_word as r, Opening, Refusal, Stream};
 use crate::wire::{MOST_COMMANDS, PRODUCTIONS};
 use crate::withdrawal_cases;
@@ -268,6 +269,7 @@ pub fn run(program: Option<&Program>) -> Result<Cases, String> {
     trailer_cases::run(&mut cases);
     production_cases::run(&mut cases);
     looks_cases::run(&mut cases);
+    range_cases::run(&mut cases);
     Ok(cases)
 }
 
@@ -407,12 +409,16 @@ fn faulty_commands(cases: &mut Cases, opening: Opening) {
     let name = "refusal 1: starts with an unknown byte";
     cases.refused(name, 1, &[], &[0xFF], 0);
     let mut other = opening.bytes();
-    for first in [0x00, 0x02, 0x03, 0x04, 0x05, 0x0B, 0x10, 0x12, 0x91, 0xFF] {
+    for first in [
+        0x00, 0x02, 0x03, 0x04, 0x05, 0x06, 0x07, 0x0B, 0x10, 0x12, 0x91, 0xFF,
+    ] {
         other[0] = first;
         let name = "refusal 1: another byte before the operands of an opening";
         cases.refused(name, 1, &[], &other, 4);
     }
-    for byte in [0x00, 0x08, 0x0B, 0x10, 0x12, 0x81, 0x85, 0x91, 0xFF] {
+    for byte in [
+        0x00, 0x08, 0x0B, 0x10, 0x12, 0x81, 0x85, 0x86, 0x87, 0x91, 0xFF,
+    ] {
         let name = format!("refusal 2: {byte:02X}");
         cases.refused(&name, 2, &opening.bytes(), &[byte], 4);
         cases.refused(&name, 2, &shelved, &[byte, 0x03], 4);
@@ -425,6 +431,12 @@ fn faulty_commands(cases: &mut Cases, opening: Opening) {
     for cut in 1..out.len() {
         let name = "refusal 3: a withdrawal cut short";
         cases.refused(name, 3, &shelved, &out[..cut], 4);
+    }
+    for command in [Reserve(22, 23), Settle(1, 22)].map(|command| command.bytes()) {
+        for cut in 1..command.len() {
+            let name = "refusal 3: a range or a settling cut short";
+            cases.refused(name, 3, &shelved, &command[..cut], 4);
+        }
     }
     let name = "refusal 3: a switch cut short";
     cases.refused(name, 3, &shelved, &Switch(1).bytes()[..1], 4);
@@ -441,7 +453,7 @@ fn faulty_commands(cases: &mut Cases, opening: Opening) {
             let name = "refusal 4 before 3: a second opening cut short";
             cases.refused(name, 4, &shelved, &second[..cut], 4);
         }
-        let faults = [&second[..], &[0x07]].concat();
+        let faults = [&second[..], &[0x08]].concat();
         cases.refused("the first faulty command decides", 4, &counted, &faults, 4);
     }
     let name = "refusal 4 before 5: a second opening outside its limits";
@@ -485,7 +497,7 @@ fn numbers_of_commands(cases: &mut Cases, opening: Opening) {
     let (size, count, out) = (Shelve(22).bytes(), Count.bytes(), Withdraw(1).bytes());
     let [by_01, by_11] = OPENINGS.map(|opening| opening.bytes());
     let whole = [&count, &size, &out, &by_01, &by_11].map(|bytes| &bytes[..]);
-    let switches = [&[5][..], &[5, 0], &[5, 1], &[5, 2], &[5, 255]];
+    let switches = [&[5][..], &[5, 0], &[5, 1], &[5, 2], &[5, 255], &[6], &[7]];
     let cut = [
         &[0xFF],
         &by_01[..1],

@@ -4,13 +4,16 @@
 use crate::compare::Outcome;
 use crate::paper::Shelved;
 use crate::streams::StreamTrial;
-use crate::{either_opening, figures, independence, left_out, looks, still_shelved, walk};
+use crate::{
+    either_opening, figures, independence, left_out, looks, still_shelved, true_sizes, walk,
+};
 
 pub type Check = fn(&StreamTrial, &Outcome) -> Option<&'static str>;
 
-pub const CHECKS: [Check; 6] = [
+pub const CHECKS: [Check; 7] = [
     figures::fault,
     still_shelved::fault,
+    true_sizes::fault,
     looks::fault,
     left_out::fault,
     either_opening::fault,

@@ -4,7 +4,7 @@
 use crate::compare::{by_library, Outcome};
 use crate::sheet;
 use crate::streams::StreamTrial;
-use crate::wire::{by_other_opening, Refusal};
+use crate::wire::{by_other_opening, has_sheet, Refusal};
 use crate::written::Written;
 
 /// What a stream comes to otherwise by the other opening. Behind that a refusal
@@ -19,9 +19,16 @@ pub fn fault(trial: &StreamTrial, outcome: &Outcome) -> Option<&'static str> {
         Refusal { number, at }
     });
     let sheet = match refusal {
-        // A sheet needs no rows, so 7 is not its refusal.
-        None | Some(Refusal { number: 7, .. }) => outcome.sheet.clone(),
-        Some(refusal) => Written::text(trial.fill, &sheet::sheet(&stream, &Err(refusal))),
+        // A sheet needs no rows, so 7 is not its refusal. By the trailer's bytes
+        // one of the two may be too long for a sheet.
+        None | Some(Refusal { number: 7, .. }) => {
+            let alike = has_sheet(&stream) == has_sheet(&trial.stream);
+            alike.then(|| outcome.sheet.clone())
+        }
+        Some(refusal) => {
+            let text = sheet::sheet(&stream, &Err(refusal));
+            Some(Written::text(trial.fill, &text))
+        }
     };
     let other = by_library(&StreamTrial {
         stream,
@@ -33,7 +40,7 @@ pub fn fault(trial: &StreamTrial, outcome: &Outcome) -> Option<&'static str> {
         Some("by the other opening the refusal is another, or stands elsewhere")
     } else if other.rows != outcome.rows {
         Some("by the other opening a word of the rows is another")
-    } else if other.sheet != sheet {
+    } else if sheet.is_some_and(|sheet| sheet != other.sheet) {
         Some("by the other opening the sheet is another")
     } else {
         None
@@ -46,14 +53,15 @@ mod tests {
     use crate::cases::{case, sent, totals};
     use crate::paper::Totals;
     use crate::rows::Lent;
-    use crate::wire::Command::{Count, Shelve, Withdraw};
+    use crate::wire::Command::{Count, Reserve, Settle, Shelve, Withdraw};
     use crate::wire::{opening, refused_word as r, Command, Opening};
 
     const OPEN: Opening = opening(60, 1, 6);
     const TRAILED: Opening = OPEN.with_trailer(5);
 
-    /// The same by either opening: 35 on a cartridge, then refusals, 35 out.
-    const COMMANDS: [(Command, Command); 7] = [
+    /// The same by either opening: 35 on a cartridge, then refusals, 35 out, and one
+    /// of 32 to 40 settled.
+    const COMMANDS: [(Command, Command); 12] = [
         (Shelve(35), Shelve(30)),
         (Shelve(61), Shelve(56)),
         (Shelve(0), Shelve(0)),
@@ -61,9 +69,14 @@ mod tests {
         (Count, Count),
         (Shelve(u32::MAX), Shelve(u32::MAX)),
         (Withdraw(1), Withdraw(1)),
+        (Reserve(0, 40), Reserve(0, 35)),
+        (Reserve(32, 40), Reserve(27, 35)),
+        (Settle(9, 31), Settle(9, 26)),
+        (Settle(9, 32), Settle(9, 27)),
+        (Settle(9, 32), Settle(9, 27)),
     ];
-    const WORDS: [u16; 7] = [1, r(9), r(8), r(10), 1, r(9), 1];
-    const FREE: [u32; 7] = [25, 0, 0, 0, 0, 0, 60];
+    const WORDS: [u16; 12] = [1, r(9), r(8), r(10), 1, r(9), 1, r(19), 1, r(21), 1, r(20)];
+    const FREE: [u32; 12] = [25, 0, 0, 0, 0, 0, 60, 0, 20, 0, 28, 0];
 
     /// The stream by 01, by 11 with a trailer of 0, and by 11 with one of 5.
     fn streams() -> [Vec<u8>; 3] {
@@ -76,7 +89,7 @@ mod tests {
         ]
     }
 
-    const TOTALS: Totals = totals(0, 1, 1);
+    const TOTALS: Totals = totals(1, 1, 1);
 
     #[test]
     fn what_comes_to_something_else_is_found() {
@@ -87,7 +100,7 @@ mod tests {
             };
             assert_eq!(found(TOTALS, &WORDS, &FREE), None);
             let expected = Some("by the other opening the totals are others");
-            for wrong in [Totals { items: 1, ..TOTALS }, Totals { looks: 2, ..TOTALS }] {
+            for wrong in [Totals { items: 0, ..TOTALS }, Totals { looks: 2, ..TOTALS }] {
                 assert_eq!(found(wrong, &WORDS, &FREE), expected, "{wrong:?}");
             }
             let expected = Some("by the other opening a word of the rows is another");
@@ -114,11 +127,11 @@ mod tests {
             let opening_len = 8 + 2 * usize::from(stream[0] == 0x11);
             let second = [&stream[..], &OPEN.bytes()].concat();
             for (stream, lent, number, at) in [
-                (stream[..len - 1].to_vec(), 9, 3, len - 3),
-                ([&stream[..], &[9]].concat(), 9, 2, len),
-                ([&stream[..], &[5, 2]].concat(), 9, 18, len),
-                (second, 9, 4, len),
-                (stream.clone(), 6, 7, len),
+                (stream[..len - 1].to_vec(), 14, 3, len - 7),
+                ([&stream[..], &[9]].concat(), 14, 2, len),
+                ([&stream[..], &[5, 2]].concat(), 14, 18, len),
+                (second, 14, 4, len),
+                (stream.clone(), 11, 7, len),
                 (stream[..opening_len + 1].to_vec(), 0, 3, opening_len),
             ] {
                 let trial = case(stream, Lent::both(lent));

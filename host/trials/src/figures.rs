@@ -6,7 +6,7 @@ use std::ops::RangeInclusive;
 
 use crate::compare::Outcome;
 use crate::streams::StreamTrial;
-use crate::wire::{answer, Command, Stream};
+use crate::wire::{answer, has_sheet, Command, Stream};
 use crate::written::Written;
 
 /// A figure for each bin, beside the bin's number: those of production 0, then
@@ -15,24 +15,48 @@ pub type Figures = Vec<(u16, u64)>;
 
 /// The free units beside these answer words: the capacity less the stored sizes
 /// of all that were answered the same bin of the production up to then and have
-/// not left it, and 0 where no item came or went. `None` if a bin is given more
-/// than it holds, or gives more.
+/// not left it, as settled or else by the greatest, and 0 where no item came, went
+/// or was settled. `None` if a bin is given more than it holds, or gives more.
 pub fn by_subtraction(stream: &Stream, words: &[u16]) -> Option<Vec<u32>> {
+    by_true_sizes(stream, words, |_, greatest| greatest)
+}
+
+/// The same where each item with a range is of the size that `truth` gives for the
+/// least and the greatest, till it is settled.
+pub fn by_true_sizes(
+    stream: &Stream,
+    words: &[u16],
+    mut truth: impl FnMut(u32, u32) -> u32,
+) -> Option<Vec<u32>> {
     let capacity = i64::from(stream.opening.capacity);
+    let stored = |size: u32| stream.opening.stored(size) as i64;
     let mut loads: HashMap<(usize, u16), i64> = HashMap::new();
+    // What each command's item takes up.
+    let mut sizes: HashMap<u16, i64> = HashMap::new();
     let answered = stream.commands.iter().zip(words).zip(stream.productions());
-    let figures = answered.map(|((command, &word), production)| {
-        let (bin, change) = match (*command, answer(word)) {
-            (Command::Shelve(size), Ok(bin)) => (bin, stream.opening.stored(size) as i64),
-            (Command::Withdraw(number), Ok(bin)) => (bin, -(stream.stored_by(number)? as i64)),
-            _ => return Some(0),
-        };
-        let load = loads.entry((production, bin)).or_default();
-        *load += change;
-        (0..=capacity)
-            .contains(load)
-            .then_some((capacity - *load) as u32)
-    });
+    let figures = (1..)
+        .zip(answered)
+        .map(|(number, ((command, &word), its))| {
+            let Ok(bin) = answer(word) else {
+                return Some(0);
+            };
+            let mut comes = |size: i64| {
+                sizes.insert(number, size);
+                size
+            };
+            let change = match *command {
+                Command::Shelve(size) => comes(stored(size)),
+                Command::Reserve(least, greatest) => comes(stored(truth(least, greatest))),
+                Command::Withdraw(named) => -sizes.remove(&named)?,
+                Command::Settle(named, size) => stored(size) - sizes.insert(named, stored(size))?,
+                Command::Count | Command::Switch(_) => return Some(0),
+            };
+            let load = loads.entry((its, bin)).or_default();
+            *load += change;
+            (0..=capacity)
+                .contains(load)
+                .then_some((capacity - *load) as u32)
+        });
     figures.collect()
 }
 
@@ -42,10 +66,8 @@ fn last_figures(stream: &Stream, words: &[u16], free: &[u32]) -> Figures {
     let answered = stream.commands.iter().zip(words).zip(free);
     let answered = answered.zip(stream.productions());
     let moved = answered.filter_map(|(((command, &word), &free), production)| match command {
-        Command::Shelve(_) | Command::Withdraw(_) => {
-            Some(((production, answer(word).ok()?), free.into()))
-        }
         Command::Count | Command::Switch(_) => None,
+        _ => Some(((production, answer(word).ok()?), free.into())),
     });
     let last: BTreeMap<(usize, u16), u64> = moved.collect();
     last.into_iter()
@@ -77,7 +99,8 @@ pub fn fault(trial: &StreamTrial, outcome: &Outcome) -> Option<&'static str> {
     if free.get(..stream.commands.len()) != Some(&figures) {
         return Some("free units and load do not make up the capacity");
     }
-    if on_sheet(&outcome.sheet, 17..=24) != Some(last_figures(&stream, words, free)) {
+    let last = last_figures(&stream, words, free);
+    if has_sheet(&trial.stream) && on_sheet(&outcome.sheet, 17..=24) != Some(last) {
         return Some("the last free units of the cartridges are not those of the sheet");
     }
     None
@@ -88,7 +111,7 @@ mod tests {
     use super::*;
     use crate::cases::{case, sample, totals};
     use crate::rows::Lent;
-    use crate::wire::Command::{Shelve, Switch, Withdraw};
+    use crate::wire::Command::{Reserve, Settle, Shelve, Switch, Withdraw};
     use crate::wire::{opening, refused_word as r};
 
     /// The fault of a stream of which the library says this.
@@ -192,6 +215,30 @@ mod tests {
         let mut wrong = words;
         wrong[5] = 1;
         assert!(found(stream.bytes(), &wrong, &[25, 0, 30, 0, 0, 5, 40]).is_some());
+    }
+
+    #[test]
+    fn what_is_settled_leaves_the_rest_free() {
+        let opening = opening(60, 4, 6).with_trailer(1);
+        let commands = [Reserve(4, 34), Shelve(19), Settle(1, 9), Withdraw(1)];
+        let after = [Reserve(4, 34), Settle(5, 3), Withdraw(5)];
+        let commands = [&commands[..], &after].concat();
+        let stream = Stream { opening, commands };
+        let words = [1, 2, 1, 1, 1, r(21), 1];
+        let free = [25, 40, 50, 60, 25, 0, 60];
+        assert_eq!(by_subtraction(&stream, &words), Some(free.to_vec()));
+        assert_eq!(found(stream.bytes(), &words, &free), None);
+        let least = by_true_sizes(&stream, &words, |least, _| least);
+        assert_eq!(least, Some(vec![55, 40, 50, 60, 55, 0, 60]));
+        for (place, wrong) in [(0, 55), (2, 25), (2, 51), (3, 85), (6, 56)] {
+            let mut figures = free;
+            figures[place] = wrong;
+            assert!(found(stream.bytes(), &words, &figures).is_some(), "{place}");
+        }
+        // The 19 on one of the greatest size, and settled where it does not lie.
+        let on_one = by_subtraction(&stream, &[1, 1, 1, 1, 1, r(21), 1]);
+        assert_eq!(on_one, Some(vec![25, 5, 30, 40, 5, 0, 40]));
+        assert_eq!(by_subtraction(&stream, &[1, 2, 2, 1, 1, r(21), 1]), None);
     }
 
     #[test]

@@ -3,7 +3,7 @@
 //! refused with 10 in either, the other production is answered the same.
 
 use crate::compare::{words_by_library, Outcome};
-use crate::lists::{bad_size, random_size, random_sizes, Sizes};
+use crate::lists::{bad_range, bad_size, random_size, random_sizes, range_to, Sizes};
 use crate::rng::Rng;
 use crate::streams::StreamTrial;
 use crate::wire::{refused_word, Command, Stream, PRODUCTIONS};
@@ -21,12 +21,19 @@ impl Replacing {
         match *self {
             Self::ByCounts => Command::Count,
             Self::Some(percent, _) if !rng.chance(percent) => command,
-            Self::Some(_, sizes) => match rng.between(0, 9) {
-                0..=1 => Command::Count,
-                2..=4 => Command::Withdraw(rng.place(stream.commands.len() + 2) as u16),
-                5 => Command::Shelve(bad_size(rng, stream.opening)),
-                _ => Command::Shelve(random_size(rng, sizes, stream.opening)),
-            },
+            Self::Some(_, sizes) => {
+                let size = random_size(rng, sizes, stream.opening);
+                let number = rng.place(stream.commands.len() + 2) as u16;
+                match rng.between(0, 13) {
+                    0..=1 => Command::Count,
+                    2..=4 => Command::Withdraw(number),
+                    5 => Command::Shelve(bad_size(rng, stream.opening)),
+                    6 => bad_range(rng, stream.opening),
+                    7..=8 => range_to(rng, size),
+                    9 => Command::Settle(number, size / 2),
+                    _ => Command::Shelve(size),
+                }
+            }
         }
     }
 }

@@ -3,7 +3,7 @@
 use crate::compare::{by_library, Outcome};
 use crate::rows::Lent;
 use crate::streams::StreamTrial;
-use crate::wire::{answer, Command, Stream};
+use crate::wire::{answer, has_sheet, Stream};
 
 /// The commands that these answers do not refuse, each name among them replaced
 /// by the number that the named command then has, and the places where they
@@ -16,9 +16,12 @@ fn kept(stream: &Stream, words: &[u16]) -> Option<(Stream, Vec<usize>)> {
         let place = places.binary_search(&place).ok()?;
         Some(place as u16 + 1)
     };
-    let commands = places.iter().map(|&place| match stream.commands[place] {
-        Command::Withdraw(number) => Some(Command::Withdraw(renamed(number)?)),
-        other => Some(other),
+    let commands = places.iter().map(|&place| {
+        let command = stream.commands[place];
+        match command.names() {
+            Some(number) => Some(command.naming(renamed(number)?)),
+            None => Some(command),
+        }
     });
     let kept = Stream {
         opening: stream.opening,
@@ -38,8 +41,10 @@ pub fn fault(trial: &StreamTrial, outcome: &Outcome) -> Option<&'static str> {
     if kept == stream {
         return None;
     }
+    let kept = kept.bytes();
+    let both_have_a_sheet = has_sheet(&kept) == has_sheet(&trial.stream);
     let without = by_library(&StreamTrial {
-        stream: kept.bytes(),
+        stream: kept,
         lent: Lent::both(places.len()),
         ..trial.clone()
     });
@@ -51,7 +56,7 @@ pub fn fault(trial: &StreamTrial, outcome: &Outcome) -> Option<&'static str> {
         Some("without the refused commands the free units are others")
     } else if without.totals() != Some(totals) {
         Some("without the refused commands the totals are others")
-    } else if without.sheet != outcome.sheet {
+    } else if both_have_a_sheet && without.sheet != outcome.sheet {
         Some("without the refused commands the sheet is another")
     } else {
         None
@@ -63,11 +68,11 @@ mod tests {
     use super::*;
     use crate::cases::{case, sent, totals};
     use crate::paper::Totals;
-    use crate::wire::Command::{Count, Shelve, Switch, Withdraw};
+    use crate::wire::Command::{self, Count, Reserve, Settle, Shelve, Switch, Withdraw};
     use crate::wire::{opening, refused_word as r};
     use crate::written::Written;
 
-    const COMMANDS: [Command; 10] = [
+    const COMMANDS: [Command; 15] = [
         Withdraw(3),
         Shelve(0),
         Shelve(35),
@@ -78,11 +83,34 @@ mod tests {
         Switch(1),
         Withdraw(5),
         Shelve(60),
+        Reserve(6, 5),
+        Reserve(40, 50),
+        Settle(12, 39),
+        Settle(12, 45),
+        Settle(10, 60),
     ];
-    const WORDS: [u16; 10] = [r(17), r(8), 1, r(17), 2, 1, 2, 1, r(17), 1];
-    const FREE: [u32; 10] = [0, 0, 25, 0, 40, 60, 0, 0, 0, 0];
+    const WORDS: [u16; 15] = [
+        r(17),
+        r(8),
+        1,
+        r(17),
+        2,
+        1,
+        2,
+        1,
+        r(17),
+        1,
+        r(19),
+        2,
+        r(21),
+        2,
+        r(20),
+    ];
+    const FREE: [u32; 15] = [0, 0, 25, 0, 40, 60, 0, 0, 0, 0, 0, 10, 0, 15, 0];
+    /// Those that are not refused.
+    const KEPT: [usize; 8] = [2, 4, 5, 6, 7, 9, 11, 13];
 
-    const TOTALS: Totals = totals(2, 3, 1);
+    const TOTALS: Totals = totals(3, 4, 1);
 
     #[test]
     fn names_follow_the_commands() {
@@ -97,9 +125,11 @@ mod tests {
             Count,
             Switch(1),
             Shelve(60),
+            Reserve(40, 50),
+            Settle(7, 45),
         ];
         assert_eq!(kept.commands, expected);
-        assert_eq!(places, [2, 4, 5, 6, 7, 9]);
+        assert_eq!(places, KEPT);
         let mut words = WORDS;
         words[3] = 1;
         assert!(super::kept(&stream, &words).is_none());
@@ -116,7 +146,7 @@ mod tests {
         words[3] = 1;
         let expected = Some("a refused command is named, and what names it is not refused");
         assert_eq!(found(TOTALS, &words, &FREE), expected);
-        for place in [2, 4, 5, 6, 7, 9] {
+        for place in KEPT {
             let mut words = WORDS;
             words[place] += 1;
             let expected = Some("without the refused commands an answer is another");
@@ -128,9 +158,9 @@ mod tests {
         }
         let expected = Some("without the refused commands the totals are others");
         for wrong in [
-            Totals { items: 3, ..TOTALS },
+            Totals { items: 4, ..TOTALS },
             Totals {
-                opened: 2,
+                opened: 3,
                 ..TOTALS
             },
             Totals { looks: 3, ..TOTALS },

@@ -2,7 +2,7 @@
 
 use crate::families::{self, Family};
 use crate::rng::Rng;
-use crate::wire::Command::{Count, Shelve};
+use crate::wire::Command::{self, Count, Reserve, Shelve};
 use crate::wire::{opening, Opening, Stream};
 use crate::wire::{LEAST_M, MOST_CAPACITY, MOST_COMMANDS, MOST_M, MOST_STOCK};
 
@@ -153,6 +153,34 @@ pub fn bad_size(rng: &mut Rng, opening: Opening) -> u32 {
         _ => rng.between(above, u32::MAX.into()),
     };
     size as u32
+}
+
+/// An item that is of this size at the greatest.
+pub fn range_to(rng: &mut Rng, greatest: u32) -> Command {
+    let least = match rng.between(0, 5) {
+        0 => 1,
+        1 => greatest,
+        2 => greatest.saturating_sub(1),
+        3 => greatest / 2,
+        _ => rng.between(1, greatest.max(1).into()) as u32,
+    };
+    Reserve(least.max(1), greatest)
+}
+
+/// An item of a range that is wrong, or too large.
+pub fn bad_range(rng: &mut Rng, opening: Opening) -> Command {
+    let size = bad_size(rng, opening);
+    let good = opening.bare(rng.between(1, opening.capacity.into()) as u32);
+    match rng.between(0, 9) {
+        0 => Reserve(0, good),
+        1 => Reserve(good + 1, good),
+        2 => Reserve(size.max(good), good - 1),
+        3 => Reserve(size, 0),
+        4 => Reserve(0, size),
+        5 => Reserve(size, size),
+        6 => Reserve(size, size.saturating_sub(1)),
+        _ => range_to(rng, size),
+    }
 }
 
 /// So many commands: items, good and bad, and counts.

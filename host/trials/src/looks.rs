@@ -6,7 +6,7 @@ use std::fmt;
 use crate::compare::Outcome;
 use crate::paper::{Packing, Shelved};
 use crate::streams::StreamTrial;
-use crate::wire::{answer, Command, Stream, PRODUCTIONS};
+use crate::wire::{answer, Stream, PRODUCTIONS};
 
 /// The least number with 2 to its power at least the stock.
 fn height(stock: u16) -> usize {
@@ -29,7 +29,7 @@ pub fn fault_of_paper(shelved: &Shelved) -> Option<&'static str> {
     let searches = &shelved.packing.searches;
     let answered = shelved.commands.iter().zip(&shelved.answers);
     let to_search = (1..).zip(answered).filter(|(_, (command, (word, _)))| {
-        matches!(command, Command::Shelve(_)) && !matches!(answer(*word), Err(8 | 9))
+        command.item().is_some() && !matches!(answer(*word), Err(8 | 9 | 19))
     });
     let numbers = searches.iter().map(|searched| searched.number);
     if !numbers.eq(to_search.map(|(number, _)| number)) {
@@ -57,14 +57,15 @@ fn by_answers(stream: &Stream, words: &[u16]) -> usize {
     let mut opened = [0; PRODUCTIONS];
     let answered = stream.commands.iter().zip(words).zip(stream.productions());
     let searches = answered.filter_map(|((command, &word), production)| {
-        let fits = match (command, answer(word)) {
-            (Command::Shelve(_), Ok(bin)) => {
+        command.item()?;
+        let fits = match answer(word) {
+            Ok(bin) => {
                 let before = opened[production];
                 opened[production] = before.max(bin);
                 bin <= before
             }
-            (Command::Shelve(_), Err(10)) => false,
-            _ => return None,
+            Err(10) => false,
+            Err(_) => return None,
         };
         Some(looks(stream.opening.stock, fits))
     });
@@ -126,9 +127,9 @@ mod tests {
     use crate::paper::{self, Search};
     use crate::rng::Rng;
     use crate::rows::Lent;
-    use crate::wire::Command::{Count, Shelve, Switch, Withdraw};
+    use crate::wire::Command::{self, Count, Reserve, Settle, Shelve, Switch, Withdraw};
     use crate::wire::{opening, refused_word as r};
-    use crate::{productions, streams, withdrawals};
+    use crate::{productions, ranges, streams, withdrawals};
 
     #[test]
     fn a_wrong_search_is_found() {
@@ -180,12 +181,22 @@ mod tests {
 
     #[test]
     fn wrong_looks_are_found() {
-        let no_search = [(Shelve(0), r(8)), (Shelve(61), r(9)), (Count, 0)];
+        let no_search = [
+            (Shelve(0), r(8)),
+            (Shelve(61), r(9)),
+            (Count, 0),
+            (Reserve(0, 20), r(19)),
+            (Reserve(1, 61), r(9)),
+            (Settle(4, 1), r(20)),
+        ];
         let nothing_fits = [(Shelve(35), 1), (Shelve(30), 2), (Withdraw(1), 1)];
         let spent = [(Shelve(35), 1), (Shelve(30), r(10)), (Withdraw(2), r(17))];
         let fits = [(Shelve(35), 1), (Shelve(24), 2), (Shelve(24), 2)];
         let of_the_other = [(Shelve(35), 1), (Switch(1), 1), (Shelve(35), 1)];
         let in_the_second = [(Switch(1), 1), (Shelve(24), 1), (Shelve(24), 1)];
+        let range = [(Reserve(1, 24), 1), (Settle(1, 1), 1), (Reserve(1, 31), 2)];
+        let fitting_range = [(Shelve(24), 1), (Reserve(1, 24), 1)];
+        let spent_range = [(Shelve(24), 1), (Reserve(1, 31), r(10))];
         for (stock, answered, right) in [
             (5, &[][..], 0),
             (5, &no_search, 0),
@@ -197,6 +208,9 @@ mod tests {
             (512, &fits, 10),
             (5, &of_the_other, 1),
             (5, &in_the_second, 4),
+            (5, &range, 1),
+            (5, &fitting_range, 4),
+            (1, &spent_range, 1),
         ] {
             for looks in 0..=11 {
                 let fault = found(stock, answered, looks);
@@ -209,7 +223,12 @@ mod tests {
     fn all_is_met_in_a_short_run() {
         let mut taken = Taken::default();
         for index in 0..500 {
-            for random in [streams::random, withdrawals::random, productions::random] {
+            for random in [
+                streams::random,
+                withdrawals::random,
+                productions::random,
+                ranges::random,
+            ] {
                 let trial = random(&mut Rng::of_trial(1, index));
                 if let Ok(shelved) = paper::shelve(&trial.stream) {
                     taken.add(&shelved.packing);

@@ -6,7 +6,7 @@ use crate::compare::by_paper_of;
 use crate::looks;
 use crate::paper;
 use crate::rows::Lent;
-use crate::wire::Command::{self, Count, Shelve, Switch, Withdraw};
+use crate::wire::Command::{self, Count, Reserve, Settle, Shelve, Switch, Withdraw};
 use crate::wire::{opening, Opening, Stream, MOST_COMMANDS};
 
 /// A command and its looks, 0 where it makes no search.
@@ -86,7 +86,7 @@ pub fn run(cases: &mut Cases) {
 
 /// One cartridge at the most has space for a master.
 fn few_masters(cases: &mut Cases, stock: u16, most: usize) {
-    let looked: [(&str, &[Looked]); 12] = [
+    let looked: [(&str, &[Looked]); 16] = [
         ("no command", &[]),
         (
             "no master",
@@ -147,6 +147,32 @@ fn few_masters(cases: &mut Cases, stock: u16, most: usize) {
         (
             "an emptied cartridge of another class",
             &[(Shelve(60), 1), (Withdraw(1), 0), (Shelve(30), 1)],
+        ),
+        (
+            "every range refused with 19 or 9",
+            &[
+                (Reserve(0, 5), 0),
+                (Reserve(6, 5), 0),
+                (Reserve(1, 61), 0),
+                (Settle(1, 5), 0),
+            ],
+        ),
+        (
+            "a range and its settlings",
+            &[
+                (Reserve(1, 35), 1),
+                (Settle(1, 36), 0),
+                (Settle(1, 5), 0),
+                (Settle(1, 5), 0),
+            ],
+        ),
+        (
+            "a second with a range that fits",
+            &[(Reserve(30, 30), 1), (Reserve(1, 30), most)],
+        ),
+        (
+            "an A beside one that is settled",
+            &[(Reserve(1, 60), 1), (Settle(1, 1), 0), (Shelve(59), most)],
         ),
     ];
     let open = opening(60, stock, 6);

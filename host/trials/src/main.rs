@@ -4,9 +4,9 @@
 //! a count reads is no part of the interface, and is compared with what a
 //! program of its own prints ([`walk`]).
 //!
-//! `trials [--streams N] [--withdrawals N] [--productions N] [--plans N] [--seed
-//! S] [--count-walk PROGRAM]`. The first difference is made small and printed with
-//! both answers, and the exit status is 1.
+//! `trials [--streams N] [--withdrawals N] [--productions N] [--ranges N] [--plans
+//! N] [--seed S] [--count-walk PROGRAM]`. The first difference is made small and
+//! printed with both answers, and the exit status is 1.
 
 mod cases;
 mod checks;
@@ -27,8 +27,11 @@ mod paper;
 mod plans;
 mod production_cases;
 mod productions;
+mod range_cases;
+mod ranges;
 mod rng;
 mod rows;
+mod settled;
 mod shared;
 mod sheet;
 mod sheet_cases;
@@ -37,6 +40,7 @@ mod still_shelved;
 mod streams;
 mod trailer_cases;
 mod trailers;
+mod true_sizes;
 mod walk;
 mod walk_cases;
 mod wire;
@@ -55,15 +59,16 @@ use met::Met;
 use paper::Shelved;
 use plans::PlanTrial;
 use rng::Rng;
+use settled::Settled;
 use shared::Shared;
 use smaller::{show_plan, show_stream, show_walk};
 use streams::{StreamTrial, COUNTS};
 use trailers::Trailers;
 use walk::{Found, Program};
-use wire::{Stream, PRODUCTIONS};
+use wire::{has_sheet, Stream, PRODUCTIONS};
 
-const USAGE: &str = "usage: trials [--streams N] [--withdrawals N] [--productions N] [--plans N] \
-                     [--seed S] [--count-walk PROGRAM]";
+const USAGE: &str = "usage: trials [--streams N] [--withdrawals N] [--productions N] \
+                     [--ranges N] [--plans N] [--seed S] [--count-walk PROGRAM]";
 
 /// The longest list whose fewest bins are searched for.
 const SHORT: usize = 13;
@@ -80,6 +85,7 @@ struct Settings {
     streams: u64,
     withdrawals: u64,
     productions: u64,
+    ranges: u64,
     plans: u64,
     seed: u64,
     count_walk: Option<Program>,
@@ -103,6 +109,11 @@ impl Settings {
         productions::random(&mut Rng::of_trial(!self.seed, !index))
     }
 
+    /// The trial of ranges of this number: likewise, counted up.
+    fn range(&self, index: u64) -> StreamTrial {
+        ranges::random(&mut Rng::of_trial(!self.seed, index))
+    }
+
     /// The plan trial of this number.
     fn plan(&self, index: u64) -> PlanTrial {
         plans::random(&mut Rng::of_trial(self.seed, 2 * index + 1))
@@ -115,6 +126,7 @@ fn settings() -> Option<Settings> {
         streams: 10_000,
         withdrawals: 10_000,
         productions: 10_000,
+        ranges: 10_000,
         plans: 10_000,
         seed: now.as_nanos() as u64 % 1_000_000_000,
         count_walk: None,
@@ -127,6 +139,7 @@ fn settings() -> Option<Settings> {
             "--streams" => settings.streams = number()?,
             "--withdrawals" => settings.withdrawals = number()?,
             "--productions" => settings.productions = number()?,
+            "--ranges" => settings.ranges = number()?,
             "--plans" => settings.plans = number()?,
             "--seed" => settings.seed = number()?,
             "--count-walk" => settings.count_walk = Some(Program(value.into())),
@@ -192,6 +205,12 @@ fn run(settings: &Settings) -> Result<(), Failure> {
     };
     let tally = try_streams("production", settings.productions, production, add)?;
     println!("with two productions, {tally}\n{met}\n{shared}");
+
+    let mut settled = Settled::default();
+    let range = |index| settings.range(index);
+    let add = |trial: &StreamTrial| settled.add(trial);
+    let tally = try_streams("range", settings.ranges, range, add)?;
+    println!("with ranges, {tally}\n{settled}");
 
     match program {
         Some(program) => {
@@ -312,8 +331,8 @@ fn try_stream(trial: StreamTrial, tally: &mut Tally) -> Result<(), String> {
 }
 
 /// The largest `3 * opened - 5 * k` of a production of an accepted stream up to
-/// its first accepted withdrawal, by the library's own answers. None, where
-/// nothing is accepted.
+/// its first accepted withdrawal or settling, by the library's own answers and the
+/// greatest sizes. None, where nothing is accepted.
 fn worst_excess(trial: &StreamTrial, outcome: &Outcome, tally: &mut Tally) -> Option<i64> {
     outcome.totals()?;
     let stream = Stream::read(&trial.stream).ok()?;
@@ -353,9 +372,11 @@ fn try_walks(settings: &Settings, program: &Program) -> Result<String, Failure> 
     let streams = (0..settings.streams).map(|index| (index, settings.stream(index)));
     let withdrawals = (0..settings.withdrawals).map(|index| (index, settings.withdrawal(index)));
     let productions = (0..settings.productions).map(|index| (index, settings.production(index)));
+    let ranges = (0..settings.ranges).map(|index| (index, settings.range(index)));
+    let plain = streams.chain(withdrawals);
     let mut compared = 0;
     let mut found = Found::default();
-    for (index, trial) in streams.chain(withdrawals).chain(productions) {
+    for (index, trial) in plain.chain(productions).chain(ranges) {
         if trial.kind != COUNTS && index % WALKED != 0 {
             continue;
         }
@@ -365,6 +386,10 @@ fn try_walks(settings: &Settings, program: &Program) -> Result<String, Failure> 
             return Err(Failure::Difference(difference));
         }
         compared += 1;
+        // Nothing is printed of what is too long.
+        if !has_sheet(&trial.stream) {
+            continue;
+        }
         if let Ok(Shelved { packing, walks, .. }) = paper::shelve(&trial.stream) {
             let figures = walks.into_iter().map(|walk| walk.figure);
             found.add(packing.opening.stock, figures);
@@ -390,7 +415,7 @@ mod tests {
     use crate::cases::{case, sent, totals};
     use crate::rows::Lent;
     use crate::wire::opening;
-    use crate::wire::Command::{Shelve, Switch, Withdraw};
+    use crate::wire::Command::{Reserve, Settle, Shelve, Switch, Withdraw};
 
     /// The list that does worst, five for two, and six that fill as many; with
     /// one of them taken out, or not, in between.
@@ -407,6 +432,23 @@ mod tests {
         };
         assert_eq!(worst(1), (Some(5), 5));
         assert_eq!(worst(6), (Some(5), 11));
+    }
+
+    /// The same by the greatest sizes, up to the first settling.
+    #[test]
+    fn the_fewest_are_compared_by_the_greatest_up_to_the_first_settling() {
+        let worst = |settled: u32| {
+            let mut commands = [6, 5, 6, 4, 1].map(|size| Reserve(1, size)).to_vec();
+            commands.push(Settle(1, settled));
+            commands.extend([Shelve(11); 6]);
+            let trial = case(sent(opening(11, 512, 6), &commands), Lent::both(12));
+            let mut tally = Tally::default();
+            let worst = worst_excess(&trial, &by_paper(&trial), &mut tally);
+            (worst, tally.prefixes)
+        };
+        assert_eq!(worst(6), (Some(5), 5));
+        // What is refused settles nothing.
+        assert_eq!(worst(7), (Some(5), 11));
     }
 
     /// The same in one production, where the other takes out its only item.

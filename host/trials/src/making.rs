@@ -1,9 +1,9 @@
 //! Streams in the making. The shelf that a stream leaves is known while it is
 //! made, by the paper, so that a command can name what lies there.
 
-use crate::paper::{Bin, Packing, Production};
+use crate::paper::{Bin, Item, Packing, Production};
 use crate::rng::Rng;
-use crate::wire::Command::{self, Count, Shelve, Switch, Withdraw};
+use crate::wire::Command::{self, Count, Reserve, Settle, Shelve, Switch, Withdraw};
 use crate::wire::{answer, Opening, Stream};
 
 /// A stream in the making, and the shelf that it leaves so far.
@@ -17,6 +17,7 @@ pub struct Making {
     counts: Vec<u16>,
     withdrawals: Vec<u16>,
     switches: Vec<u16>,
+    settlings: Vec<u16>,
 }
 
 impl Making {
@@ -29,6 +30,7 @@ impl Making {
             counts: Vec::new(),
             withdrawals: Vec::new(),
             switches: Vec::new(),
+            settlings: Vec::new(),
         }
     }
 
@@ -43,8 +45,8 @@ impl Making {
         let accepted = answer(self.shelf.answer(number, command).0).is_ok();
         let number = number as u16;
         match command {
-            Shelve(_) if accepted => {}
-            Shelve(_) => self.refused.push(number),
+            Shelve(_) | Reserve(..) if accepted => {}
+            Shelve(_) | Reserve(..) => self.refused.push(number),
             Count => self.counts.push(number),
             Withdraw(named) => {
                 self.withdrawals.push(number);
@@ -53,6 +55,7 @@ impl Making {
                 }
             }
             Switch(_) => self.switches.push(number),
+            Settle(..) => self.settlings.push(number),
         }
         accepted
     }
@@ -62,13 +65,14 @@ impl Making {
     pub fn name(&self, rng: &mut Rng) -> u16 {
         let own = self.len() as u16 + 1;
         let name = match rng.between(0, 29) {
-            0..=15 => present(rng, self.shelf.current()),
-            16..=17 => present(rng, self.shelf.other()),
-            18..=19 => pick(rng, &self.gone),
-            20..=21 => pick(rng, &self.refused),
-            22 => pick(rng, &self.counts),
-            23 => pick(rng, &self.withdrawals),
-            24 => pick(rng, &self.switches),
+            0..=14 => present(rng, self.shelf.current()),
+            15..=16 => present(rng, self.shelf.other()),
+            17..=18 => pick(rng, &self.gone),
+            19..=20 => pick(rng, &self.refused),
+            21 => pick(rng, &self.counts),
+            22 => pick(rng, &self.withdrawals),
+            23 => pick(rng, &self.switches),
+            24 => pick(rng, &self.settlings),
             25 => Some(own),
             26 => Some(own + rng.between(1, 5) as u16),
             27 => Some(0),
@@ -76,6 +80,32 @@ impl Making {
             _ => Some(rng.word() as u16),
         };
         name.unwrap_or(own / 2)
+    }
+
+    /// A settling: mostly of an item of the current production that waits for it, by
+    /// a size of its range or one beside that, else of one that does not wait, or by
+    /// any number to name.
+    pub fn settling(&self, rng: &mut Rng) -> Command {
+        let (own, other) = (self.shelf.current(), self.shelf.other());
+        let name = match rng.between(0, 19) {
+            0..=13 => waiting(rng, own, true),
+            14 => waiting(rng, other, true),
+            15..=16 => waiting(rng, own, false),
+            _ => None,
+        };
+        let name = name.unwrap_or_else(|| self.name(rng));
+        let mut items = self.shelf.bins().flat_map(|bin| &bin.items);
+        let named = items.find(|item| item.number == name.into());
+        let (least, greatest) = named.and_then(|item| item.range).unwrap_or((1, 9));
+        let size = match rng.between(0, 19) {
+            0..=3 => least,
+            4..=6 => greatest,
+            7 => least - 1,
+            8 => greatest.saturating_add(1),
+            9 => rng.pick(&[0, 1, u32::MAX, self.stream.opening.capacity]),
+            _ => rng.between(least.into(), greatest.into()) as u32,
+        };
+        Settle(name, size)
     }
 
     /// Takes out all that lies on a bin of the current production, in any order,
@@ -97,6 +127,15 @@ impl Making {
 fn present(rng: &mut Rng, production: &Production) -> Option<u16> {
     let numbers = production.bins.iter().flat_map(numbers);
     pick(rng, &numbers.collect::<Vec<_>>())
+}
+
+/// The number of an item of a production that waits to be settled, or of one that
+/// does not, if there is one.
+pub fn waiting(rng: &mut Rng, production: &Production, waits: bool) -> Option<u16> {
+    let items = production.bins.iter().flat_map(|bin| &bin.items);
+    let items = items.filter(|item| item.range.is_some() == waits);
+    let number = |item: &Item| item.number as u16;
+    pick(rng, &items.map(number).collect::<Vec<_>>())
 }
 
 /// The numbers of the items on a bin.

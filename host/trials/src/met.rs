@@ -7,9 +7,9 @@ use crate::paper::{size_class, Packing, SizeClass};
 use crate::streams::StreamTrial;
 use crate::wire::{answer, Command, Stream, MOST_COMMANDS};
 
-/// What a refused withdrawal names.
+/// What a refused withdrawal or settling names.
 #[derive(Clone, Copy)]
-enum Named {
+pub enum Named {
     Zero,
     Itself,
     Later,
@@ -17,12 +17,16 @@ enum Named {
     Count,
     Withdrawal,
     Switch,
+    Settling,
     Refused,
     Out,
     OthersItem,
+    /// On the shelf, and so only settled: of no range, or settled before.
+    Plain,
+    Settled,
 }
 
-const NAMED: [(Named, &str); 10] = [
+pub const NAMED: [(Named, &str); 13] = [
     (Named::Zero, "0"),
     (Named::Itself, "itself"),
     (Named::Later, "a later number"),
@@ -30,16 +34,52 @@ const NAMED: [(Named, &str); 10] = [
     (Named::Count, "a count"),
     (Named::Withdrawal, "a withdrawal"),
     (Named::Switch, "a switch"),
+    (Named::Settling, "a settling"),
     (Named::Refused, "a refused master"),
     (Named::Out, "one already out"),
     (Named::OthersItem, "one of the other production"),
+    (Named::Plain, "one of no range"),
+    (Named::Settled, "one already settled"),
 ];
+
+/// Those that a withdrawal may name.
+const WITHDRAWN: usize = Named::Plain as usize;
+
+impl Named {
+    /// What the refused command of this number names, where these are out.
+    pub fn by(
+        commands: &[Command],
+        number: usize,
+        named: u16,
+        shelf: &Packing,
+        out: &HashSet<u16>,
+    ) -> Self {
+        let earlier = match named.into() {
+            0 => return Self::Zero,
+            other if other == number => return Self::Itself,
+            other if other > MOST_COMMANDS => return Self::AboveAll,
+            other if other > number => return Self::Later,
+            earlier => earlier,
+        };
+        match commands[earlier - 1] {
+            Command::Count => Self::Count,
+            Command::Withdraw(_) => Self::Withdrawal,
+            Command::Switch(_) => Self::Switch,
+            Command::Settle(..) => Self::Settling,
+            _ if out.contains(&named) => Self::Out,
+            _ if shelf.other().holds(earlier) => Self::OthersItem,
+            _ if !shelf.current().holds(earlier) => Self::Refused,
+            Command::Shelve(_) => Self::Plain,
+            Command::Reserve(..) => Self::Settled,
+        }
+    }
+}
 
 /// How often something was met, by the paper.
 #[derive(Default)]
 pub struct Met {
     taken_out: u64,
-    refused: [u64; NAMED.len()],
+    refused: [u64; WITHDRAWN],
     /// Bins that lost their last item, and empty ones that were chosen again,
     /// by their class.
     emptied: [u64; 4],
@@ -67,11 +107,11 @@ impl Met {
         for (number, &command) in (1..).zip(commands) {
             let opened = shelf.current().bins.len();
             match (command, answer(shelf.answer(number, command).0)) {
-                (Command::Shelve(size), Ok(bin)) => {
+                (Command::Shelve(size) | Command::Reserve(_, size), Ok(bin)) => {
                     self.placed(&shelf, opening.stored(size), bin.into(), opened);
                     self.after_10 += u64::from(withdrawn_since_10 == Some(true));
                 }
-                (Command::Shelve(_), Err(10)) => withdrawn_since_10 = Some(false),
+                (_, Err(10)) => withdrawn_since_10 = Some(false),
                 (Command::Withdraw(named), Ok(bin)) => {
                     let bin = &shelf.current().bins[usize::from(bin) - 1];
                     self.emptied[bin.class as usize - 1] += u64::from(bin.items.is_empty());
@@ -80,23 +120,10 @@ impl Met {
                     withdrawn_since_10 = withdrawn_since_10.map(|_| true);
                 }
                 (Command::Withdraw(named), Err(_)) => {
-                    let named = match named.into() {
-                        0 => Named::Zero,
-                        other if other == number => Named::Itself,
-                        other if other > MOST_COMMANDS => Named::AboveAll,
-                        other if other > number => Named::Later,
-                        earlier => match commands[earlier - 1] {
-                            Command::Count => Named::Count,
-                            Command::Withdraw(_) => Named::Withdrawal,
-                            Command::Switch(_) => Named::Switch,
-                            Command::Shelve(_) if out.contains(&named) => Named::Out,
-                            Command::Shelve(_) if shelf.other().holds(earlier) => Named::OthersItem,
-                            Command::Shelve(_) => Named::Refused,
-                        },
-                    };
+                    let named = Named::by(commands, number, named, &shelf, &out);
                     self.refused[named as usize] += 1;
                 }
-                (Command::Shelve(_), Err(_)) | (Command::Count | Command::Switch(_), _) => {}
+                _ => {}
             }
         }
     }
@@ -131,7 +158,10 @@ impl fmt::Display for Met {
             past_b2,
             after_10,
         } = self;
-        let named = NAMED.map(|(named, words)| format!("{words} {}", refused[named as usize]));
+        let named = refused.iter().zip(NAMED);
+        let named: Vec<String> = named
+            .map(|(times, (_, words))| format!("{words} {times}"))
+            .collect();
         let by_class = |bins: &[u64; 4]| bins.map(|bins| bins.to_string()).join(" ");
         write!(
             f,
@@ -150,13 +180,13 @@ impl fmt::Display for Met {
 mod tests {
     use super::*;
     use crate::rng::Rng;
-    use crate::{productions, withdrawals};
+    use crate::{productions, ranges, withdrawals};
 
     #[test]
     fn all_is_met_in_a_short_run() {
         let mut met = Met::default();
         for index in 0..500 {
-            for random in [withdrawals::random, productions::random] {
+            for random in [withdrawals::random, productions::random, ranges::random] {
                 met.add(&random(&mut Rng::of_trial(1, index)));
             }
         }

@@ -40,8 +40,13 @@ pub fn size_class(size: u64, capacity: u64) -> SizeClass {
 pub struct Item {
     /// The number of the command that shelved it.
     pub number: usize,
-    /// What it takes on its bin: the stored size.
+    /// What it takes on its bin: the stored size, of one that waits to be settled
+    /// the greatest.
     pub size: u64,
+    /// The class that it was shelved by, which it keeps.
+    pub class: SizeClass,
+    /// The least and the greatest size as they were sent, till it is settled.
+    pub range: Option<(u32, u32)>,
 }
 
 pub struct Bin {
@@ -192,22 +197,26 @@ impl Packing {
         self.bins().count() == self.opening.stock.into()
     }
 
-    /// Places the item of the command with this number: the number of its bin,
-    /// or the refusal's number. But for refusal 8, all goes by the stored size.
-    fn place(&mut self, number: usize, bare: u32) -> Result<usize, u16> {
+    /// Places the item of the command with this number, which is of this size, or
+    /// of this range and then goes by the greatest: the number of its bin, or the
+    /// refusal's number. All but refusals 8 and 19 goes by the stored size.
+    fn place(&mut self, number: usize, bare: u32, range: Option<(u32, u32)>) -> Result<usize, u16> {
+        match range {
+            None if bare == 0 => return Err(8),
+            Some((least, greatest)) if least == 0 || least > greatest => return Err(19),
+            _ => {}
+        }
         let capacity = self.opening.capacity.into();
         let size = self.opening.stored(bare);
-        if bare == 0 {
-            return Err(8);
-        }
         if size > capacity {
             return Err(9);
         }
         let is_spent = self.is_spent();
         let own = &mut self.productions[self.current];
-        let is_b2 = size_class(size, capacity) == SizeClass::B2;
+        let its = size_class(size, capacity);
+        let is_b2 = its == SizeClass::B2;
         let beside_an_a = is_b2 && (own.b2_accepted + 1).is_multiple_of(self.opening.m.into());
-        let class = match size_class(size, capacity) {
+        let class = match its {
             SizeClass::A => 1,
             SizeClass::B1 => 2,
             SizeClass::B2 if beside_an_a => 1,
@@ -215,10 +224,8 @@ impl Packing {
             SizeClass::X => 4,
         };
         let permitted = |bin: &Bin| {
-            let holds_an_a = || {
-                let mut items = bin.items.iter();
-                items.any(|item| size_class(item.size, capacity) == SizeClass::A)
-            };
+            let mut items = bin.items.iter();
+            let mut holds_an_a = || items.any(|item| item.class == SizeClass::A);
             bin.class == class && (!beside_an_a || holds_an_a())
         };
         // One that is not permitted has no free space, and no item is of size 0.
@@ -242,7 +249,12 @@ impl Packing {
                 own.bins.len() - 1
             }
         };
-        own.bins[place].items.push(Item { number, size });
+        own.bins[place].items.push(Item {
+            number,
+            size,
+            class: its,
+            range,
+        });
         if is_b2 {
             own.b2_accepted += 1;
         }
@@ -261,6 +273,26 @@ impl Packing {
             }
         }
         Err(17)
+    }
+
+    /// Settles the size of the item of the command with this number: the number of
+    /// its bin, or the refusal's number if none of this production's waits for
+    /// that, or the size is outside its range. What is free grows by the rest.
+    fn settle(&mut self, number: usize, bare: u32) -> Result<usize, u16> {
+        let own = &mut self.productions[self.current];
+        for (bin, Bin { items, .. }) in (1..).zip(&mut own.bins) {
+            let mut items = items.iter_mut();
+            if let Some(item) = items.find(|item| item.number == number) {
+                let (least, greatest) = item.range.ok_or(20_u16)?;
+                if bare < least || bare > greatest {
+                    return Err(21);
+                }
+                item.size = self.opening.stored(bare);
+                item.range = None;
+                return Ok(bin);
+            }
+        }
+        Err(20)
     }
 
     /// The most looks of a search; 0, where none was made.
@@ -287,8 +319,12 @@ impl Packing {
                 self.current = production.into();
                 return (production.into(), 0);
             }
-            Command::Shelve(size) => self.place(number, size),
+            Command::Shelve(size) => self.place(number, size, None),
+            Command::Reserve(least, greatest) => {
+                self.place(number, greatest, Some((least, greatest)))
+            }
             Command::Withdraw(named) => self.take_out(named.into()),
+            Command::Settle(named, size) => self.settle(named.into(), size),
         };
         match bin {
             Ok(bin) => {

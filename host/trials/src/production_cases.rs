@@ -8,7 +8,7 @@ use crate::rows::Lent;
 use crate::sheet_cases::sheets;
 use crate::wire::Command::{self, Count, Shelve, Switch, Withdraw};
 use crate::wire::{opening, refused_word as r, Opening, Stream, MOST_COMMANDS, MOST_STOCK};
-use crate::{trailer_cases, withdrawal_cases};
+use crate::{range_cases, trailer_cases, withdrawal_cases};
 
 const OPEN: Opening = opening(60, 512, 6);
 
@@ -353,7 +353,9 @@ pub fn run(cases: &mut Cases) {
         let (words, free) = case.words();
         cases.shelved_by_both(case, &case.stream(), (&words, &free), [case.bins, second]);
     }
-    for case in withdrawal_cases::CASES.iter().chain(&trailer_cases::CASES) {
+    let withdrawn = withdrawal_cases::CASES.iter().chain(&trailer_cases::CASES);
+    let settled = range_cases::CASES.iter().chain(&range_cases::TRAILED);
+    for case in withdrawn.chain(settled) {
         in_the_second(cases, case);
         in_turns(cases, case);
     }
@@ -369,9 +371,9 @@ pub fn run(cases: &mut Cases) {
 
 /// The command with another number for each that it names.
 fn renumbered(command: Command, number: impl Fn(u16) -> u16) -> Command {
-    match command {
-        Withdraw(named @ 1..=4096) => Withdraw(number(named)),
-        other => other,
+    match command.names() {
+        Some(named @ 1..=4096) => command.naming(number(named)),
+        _ => command,
     }
 }
 

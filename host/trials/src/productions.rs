@@ -23,7 +23,7 @@ pub fn random(rng: &mut Rng) -> StreamTrial {
 }
 
 /// A switch to either production, also to the one that is current.
-fn switch(rng: &mut Rng) -> Command {
+pub fn switch(rng: &mut Rng) -> Command {
     Switch(rng.pick(&[0, 1]))
 }
 
@@ -116,7 +116,7 @@ fn b2_of_both(rng: &mut Rng) -> Stream {
 /// A list in one production, and the same, the same in another order or another
 /// list in the other: short ones, whose fewest bins can be found, and those that
 /// do badly among them.
-fn two_lists(rng: &mut Rng) -> Stream {
+pub fn two_lists(rng: &mut Rng) -> Stream {
     let Stream { opening, commands } = match rng.between(0, 9) {
         0..=4 => short_list(rng),
         5..=6 => family(rng),

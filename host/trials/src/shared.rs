@@ -52,11 +52,11 @@ impl Shared {
                 (Command::Switch(to), _) => {
                     self.switches[usize::from(usize::from(to) != production)] += 1;
                 }
-                (Command::Shelve(_), Err(10)) => {
+                (_, Err(10)) => {
                     let part = usize::from(own > 0) + usize::from(own == stock);
                     self.spent[part] += 1;
                 }
-                (Command::Shelve(_), Ok(_)) => {
+                (Command::Shelve(_) | Command::Reserve(..), Ok(_)) => {
                     self.fitting += u64::from(other > 0 && own + other == stock);
                 }
                 _ => {}

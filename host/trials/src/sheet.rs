@@ -3,7 +3,7 @@
 //! bins of [`paper`](crate::paper).
 
 use crate::paper::{Bin, Packing, Shelved};
-use crate::wire::{Refusal, MOST_PRINTED, MOST_STOCK};
+use crate::wire::{has_sheet, Refusal, MOST_PRINTED, MOST_STOCK};
 
 const LINE: usize = 40;
 const LINES_A_PAGE: usize = 50;
@@ -16,7 +16,7 @@ pub const MOST_BYTES: usize = {
 
 /// What is printed of a stream: its sheet, or the line of one that is refused.
 pub fn sheet(stream: &[u8], shelved: &Result<Shelved, Refusal>) -> String {
-    if stream.len() > MOST_PRINTED {
+    if !has_sheet(stream) {
         return format!("L {MOST_PRINTED}\n");
     }
     match shelved {

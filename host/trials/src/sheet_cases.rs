@@ -144,6 +144,8 @@ fn refused_streams(cases: &mut Cases) {
         ([&shelved[..], &[0x05]].concat(), "X 3 14\n"),
         ([&shelved[..], &[0x05, 0x02]].concat(), "X 18 14\n"),
         ([&shelved[..], &[0x04, 0x00]].concat(), "X 3 14\n"),
+        ([&shelved[..], &[0x06], &[0; 7]].concat(), "X 3 14\n"),
+        ([&shelved[..], &[0x07], &[0; 5]].concat(), "X 3 14\n"),
         (shelved[..12].to_vec(), "X 3 8\n"),
         ([&shelved[..], &shelved].concat(), "X 4 14\n"),
         ([&shelved[..], &[0x11]].concat(), "X 4 14\n"),

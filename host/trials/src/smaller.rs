@@ -78,6 +78,19 @@ fn lowered(part: Part) -> Vec<Part> {
             let commands = lower(production.into()).map(|n| Command::Switch(n as u8));
             commands.map(Part::Command).collect()
         }
+        Part::Command(Command::Reserve(least, greatest)) => {
+            let leasts = lower(least).map(|n| Command::Reserve(n, greatest));
+            let greatests = lower(greatest).map(|n| Command::Reserve(least.min(n), n));
+            // An item that does not wait for anything is simpler.
+            let plain = [Command::Shelve(greatest)].into_iter();
+            let commands = plain.chain(greatests).chain(leasts);
+            commands.map(Part::Command).collect()
+        }
+        Part::Command(Command::Settle(number, size)) => {
+            let numbers = lower(number.into()).map(|n| Command::Settle(n as u16, size));
+            let sizes = lower(size).map(|n| Command::Settle(number, n));
+            numbers.chain(sizes).map(Part::Command).collect()
+        }
         _ => Vec::new(),
     }
 }
@@ -94,6 +107,12 @@ fn scaled<'a>(parts: &[Part<'a>], by: u32) -> Option<Vec<Part<'a>>> {
                 ..opening
             }),
             Part::Command(Command::Shelve(size)) => Part::Command(Command::Shelve(less(size)?)),
+            Part::Command(Command::Reserve(least, greatest)) => {
+                Part::Command(Command::Reserve(less(least)?, less(greatest)?))
+            }
+            Part::Command(Command::Settle(number, size)) => {
+                Part::Command(Command::Settle(number, less(size)?))
+            }
             other => other,
         })
     });
@@ -106,13 +125,17 @@ fn scaled<'a>(parts: &[Part<'a>], by: u32) -> Option<Vec<Part<'a>>> {
 fn without<'a>(mut parts: Vec<Part<'a>>, block: Range<usize>) -> Vec<Part<'a>> {
     let behind = block.end..parts.len();
     for part in &mut parts {
-        if let Part::Command(Command::Withdraw(number)) = part {
-            let named = usize::from(*number);
-            if block.contains(&named) {
-                *number = 0;
-            } else if behind.contains(&named) {
-                *number -= block.len() as u16;
-            }
+        let Part::Command(command) = part else {
+            continue;
+        };
+        let Some(number) = command.names() else {
+            continue;
+        };
+        let named = usize::from(number);
+        if block.contains(&named) {
+            *command = command.naming(0);
+        } else if behind.contains(&named) {
+            *command = command.naming(number - block.len() as u16);
         }
     }
     parts.drain(block);
@@ -268,11 +291,16 @@ mod tests {
     use super::*;
     use crate::cases::{case, sent};
     use crate::wire::opening;
-    use crate::wire::Command::{Count, Shelve, Withdraw};
+    use crate::wire::Command::{Count, Reserve, Settle, Shelve, Withdraw};
 
     #[test]
     fn names_follow_their_commands() {
-        let named = [1, 2, 3, 4, 5, 9, 65_535].map(Withdraw);
+        names_follow(Withdraw);
+        names_follow(|number| Settle(number, 9));
+    }
+
+    fn names_follow(naming: fn(u16) -> Command) {
+        let named = [1, 2, 3, 4, 5, 9, 65_535].map(naming);
         let commands = [&[Shelve(9), Count, Shelve(8), Shelve(7)], &named[..]].concat();
         let stream = sent(opening(60, 4, 6), &commands);
         let trial = case(stream, Lent::both(0));
@@ -284,8 +312,20 @@ mod tests {
                 _ => None,
             })
             .collect();
-        let named = [1, 0, 0, 2, 3, 7, 65_535].map(Withdraw);
+        let named = [1, 0, 0, 2, 3, 7, 65_535].map(naming);
         assert_eq!(left, [&[Shelve(9), Shelve(7)], &named[..]].concat());
+    }
+
+    #[test]
+    fn a_range_is_lowered_and_left_out() {
+        let tries = lowered(Part::Command(Reserve(8, 20)));
+        for command in [Shelve(20), Reserve(8, 10), Reserve(4, 20), Reserve(1, 1)] {
+            assert!(tries.contains(&Part::Command(command)), "{command:?}");
+        }
+        let parts = [Reserve(80, 200), Settle(1, 90)].map(Part::Command);
+        let expected = [Reserve(8, 20), Settle(1, 9)].map(Part::Command);
+        assert_eq!(scaled(&parts, 10), Some(expected.to_vec()));
+        assert_eq!(scaled(&parts, 100), None);
     }
 
     #[test]

@@ -6,15 +6,17 @@ use crate::compare::{plan_by_library, Outcome};
 use crate::figures::{on_sheet, Figures};
 use crate::plans::PlanTrial;
 use crate::streams::StreamTrial;
-use crate::wire::{answer, entry_size, Command, Opening, Stream, PRODUCTIONS};
+use crate::wire::{answer, entry_size, has_sheet, Command, Opening, Stream, PRODUCTIONS};
 
 /// An item on the shelf as the answers tell it.
 #[derive(Clone, Copy)]
 struct Item {
     production: usize,
-    /// Its stored size.
+    /// Its stored size: as settled, or the greatest till then.
     size: u64,
     bin: u16,
+    /// The least and the greatest that it may be settled at, till it is.
+    range: Option<(u32, u32)>,
 }
 
 /// The shelf as the answers tell it.
@@ -42,59 +44,130 @@ impl Told {
     /// Takes in the answer to the next command, or says why it cannot be
     /// answered so.
     fn take_in(&mut self, command: Command, word: u16) -> Result<(), &'static str> {
-        let production = self.current;
-        let opened = self.opened[production];
-        let is_spent = self.opened.iter().sum::<u16>() == self.opening.stock;
-        let mut item = None;
-        match (command, answer(word)) {
-            (Command::Shelve(size), Ok(bin)) => {
-                if !(1..=opened + 1).contains(&bin) {
-                    return Err("a cartridge is opened out of turn");
-                }
-                if bin > opened && is_spent {
-                    return Err("a cartridge is opened though the stock is spent");
-                }
-                self.opened[production] = opened.max(bin);
-                let size = self.opening.stored(size);
-                item = Some(Item {
-                    production,
-                    size,
-                    bin,
-                });
+        let item = match command {
+            Command::Shelve(size) => self.place(size, None, answer(word))?,
+            Command::Reserve(least, greatest) => {
+                self.place(greatest, Some((least, greatest)), answer(word))?
             }
-            (Command::Shelve(_), Err(10)) if !is_spent => {
-                return Err("a master is refused with 10 though the stock is not spent");
+            _ => {
+                self.take_in_no_item(command, answer(word))?;
+                None
             }
-            (Command::Shelve(_), Err(8..=10)) => {}
-            (Command::Count, Ok(figure)) if figure == opened => {}
-            (Command::Count, Ok(_)) => {
-                return Err("a count is not of every cartridge that the production opened");
-            }
-            (Command::Withdraw(named), Ok(bin)) => match self.take_out(named) {
-                Some(item) if item.bin == bin => {}
-                Some(_) => return Err("a master leaves another cartridge than it was answered"),
-                None => return Err("a master is taken out that is not on the shelf"),
-            },
-            (Command::Withdraw(named), Err(17)) => {
-                if self.take_out(named).is_some() {
-                    return Err("a master that is on the shelf is not taken out");
-                }
-            }
-            (Command::Switch(to), Ok(byte)) if byte == to.into() => self.current = to.into(),
-            (Command::Switch(_), Ok(_)) => return Err("a switch is not answered by its byte"),
-            _ => return Err("a command is answered with a refusal that is not its own"),
-        }
+        };
         self.items.push(item);
         Ok(())
     }
 
-    /// The item of the command with this number, if it is of the current
-    /// production; it then is out.
-    fn take_out(&mut self, number: u16) -> Option<Item> {
+    /// The item of this size, or of this range and shelved by the greatest, if it is
+    /// placed.
+    fn place(
+        &mut self,
+        size: u32,
+        range: Option<(u32, u32)>,
+        answer: Result<u16, u16>,
+    ) -> Result<Option<Item>, &'static str> {
+        let production = self.current;
+        let opened = self.opened[production];
+        let is_spent = self.opened.iter().sum::<u16>() == self.opening.stock;
+        let is_wrong = range.is_some_and(|(least, greatest)| least == 0 || least > greatest);
+        match answer {
+            Err(19) if is_wrong => Ok(None),
+            _ if is_wrong => Err("a range that is wrong is not refused with 19"),
+            Err(19) if range.is_some() => Err("a range is refused with 19 that is not wrong"),
+            Err(10) if !is_spent => {
+                Err("a master is refused with 10 though the stock is not spent")
+            }
+            Err(9 | 10) => Ok(None),
+            Err(8) if range.is_none() => Ok(None),
+            Err(_) => Err("a command is answered with a refusal that is not its own"),
+            Ok(bin) if !(1..=opened + 1).contains(&bin) => Err("a cartridge is opened out of turn"),
+            Ok(bin) if bin > opened && is_spent => {
+                Err("a cartridge is opened though the stock is spent")
+            }
+            Ok(bin) => {
+                self.opened[production] = opened.max(bin);
+                Ok(Some(Item {
+                    production,
+                    size: self.opening.stored(size),
+                    bin,
+                    range,
+                }))
+            }
+        }
+    }
+
+    /// The same of a command that sends no item.
+    fn take_in_no_item(
+        &mut self,
+        command: Command,
+        answer: Result<u16, u16>,
+    ) -> Result<(), &'static str> {
+        match (command, answer) {
+            (Command::Count, Ok(figure)) if figure == self.opened[self.current] => Ok(()),
+            (Command::Count, Ok(_)) => {
+                Err("a count is not of every cartridge that the production opened")
+            }
+            (Command::Withdraw(named), Ok(bin)) => match self.named(named).and_then(Option::take) {
+                Some(item) if item.bin == bin => Ok(()),
+                Some(_) => Err("a master leaves another cartridge than it was answered"),
+                None => Err("a master is taken out that is not on the shelf"),
+            },
+            (Command::Withdraw(named), Err(17)) => match self.named(named) {
+                None => Ok(()),
+                Some(_) => Err("a master that is on the shelf is not taken out"),
+            },
+            (Command::Settle(named, size), answer) => self.settle(named, size, answer),
+            (Command::Switch(to), Ok(byte)) if byte == to.into() => {
+                self.current = to.into();
+                Ok(())
+            }
+            (Command::Switch(_), Ok(_)) => Err("a switch is not answered by its byte"),
+            _ => Err("a command is answered with a refusal that is not its own"),
+        }
+    }
+
+    /// Settles the item of the command with this number.
+    fn settle(
+        &mut self,
+        number: u16,
+        size: u32,
+        answer: Result<u16, u16>,
+    ) -> Result<(), &'static str> {
+        let stored = self.opening.stored(size);
+        let item = self.named(number).and_then(Option::as_mut);
+        let waits = item.and_then(|item| Some((item.range?, item)));
+        match (waits, answer) {
+            (None, Err(20)) => Ok(()),
+            (None, Err(21)) => Err("a refusal 21 comes before 20"),
+            (None, Ok(_)) => Err("a master is settled that does not wait for it"),
+            (Some(_), Err(20)) => Err("a master that waits to be settled is refused with 20"),
+            (Some(((least, greatest), item)), answer) => {
+                let within = (least..=greatest).contains(&size);
+                match answer {
+                    Err(21) if within => Err("a size within its range is refused with 21"),
+                    Err(21) => Ok(()),
+                    Ok(_) if !within => Err("a master is settled outside its range"),
+                    Ok(bin) if bin == item.bin => {
+                        item.size = stored;
+                        item.range = None;
+                        Ok(())
+                    }
+                    Ok(_) => Err("a master is settled on another cartridge than it was answered"),
+                    Err(_) => Err("a command is answered with a refusal that is not its own"),
+                }
+            }
+            _ => Err("a command is answered with a refusal that is not its own"),
+        }
+    }
+
+    /// The item of the command with this number, if it is on the shelf of the
+    /// current production.
+    fn named(&mut self, number: u16) -> Option<&mut Option<Item>> {
         let place = usize::from(number).checked_sub(1)?;
         let current = self.current;
         let item = self.items.get_mut(place)?;
-        item.take_if(|item| item.production == current)
+        let is_own = item.is_some_and(|item| item.production == current);
+        is_own.then_some(item)
     }
 
     /// The items of a production in the order of their commands.
@@ -149,10 +222,11 @@ pub fn fault(trial: &StreamTrial, outcome: &Outcome) -> Option<&'static str> {
     }
     let productions = (0..PRODUCTIONS).map(|production| told.loads_and_held(production));
     let (loads, held): (Vec<Figures>, Vec<Figures>) = productions.unzip();
-    if on_sheet(&outcome.sheet, 8..=15) != Some(loads.concat()) {
+    let has_sheet = has_sheet(&trial.stream);
+    if has_sheet && on_sheet(&outcome.sheet, 8..=15) != Some(loads.concat()) {
         return Some("the loads of the sheet are not of what is still shelved");
     }
-    if on_sheet(&outcome.sheet, 26..=29) != Some(held.concat()) {
+    if has_sheet && on_sheet(&outcome.sheet, 26..=29) != Some(held.concat()) {
         return Some("the sheet does not hold what is still shelved");
     }
     let mut plans = (0..PRODUCTIONS).map(|production| told.own_plan(production));
@@ -168,7 +242,7 @@ mod tests {
     use crate::cases::{case, sent, totals};
     use crate::paper::Totals;
     use crate::rows::Lent;
-    use crate::wire::Command::{Count, Shelve, Switch, Withdraw};
+    use crate::wire::Command::{Count, Reserve, Settle, Shelve, Switch, Withdraw};
     use crate::wire::{opening, refused_word as r};
     use crate::written::Written;
 
@@ -291,6 +365,103 @@ mod tests {
         ] {
             assert_eq!(found(stock, place, word), Some(expected), "{place}: {word}");
         }
+    }
+
+    /// One of 30 to 35, settled at 31 after a size above and one below, and again;
+    /// one of a wrong range, and one of no range settled.
+    #[test]
+    fn a_wrong_answer_about_a_range_is_found() {
+        let commands = [
+            Reserve(30, 35),
+            Reserve(6, 5),
+            Settle(1, 36),
+            Settle(1, 29),
+            Settle(1, 31),
+            Settle(1, 31),
+            Shelve(22),
+            Settle(7, 22),
+            Settle(0, 1),
+            Withdraw(1),
+            Settle(1, 31),
+            Reserve(20, 20),
+        ];
+        const RIGHT: [u16; 12] = [
+            1,
+            r(19),
+            r(21),
+            r(21),
+            1,
+            r(20),
+            2,
+            r(20),
+            r(20),
+            1,
+            r(20),
+            3,
+        ];
+        let trial = case(sent(OPEN, &commands), Lent::both(RIGHT.len()));
+        let found = |place: usize, word: u16| {
+            let mut words = RIGHT;
+            words[place] = word;
+            let outcome = Outcome::accepted(&trial, totals(2, 3, 1), &words, &[0; 12]);
+            fault(&trial, &outcome)
+        };
+        assert_eq!(found(0, 1), None);
+        let not_its_own = "a command is answered with a refusal that is not its own";
+        for (place, word, expected) in [
+            (0, r(19), "a range is refused with 19 that is not wrong"),
+            (0, r(8), not_its_own),
+            (1, r(8), "a range that is wrong is not refused with 19"),
+            (1, 2, "a range that is wrong is not refused with 19"),
+            (2, 1, "a master is settled outside its range"),
+            (3, 1, "a master is settled outside its range"),
+            (
+                2,
+                r(20),
+                "a master that waits to be settled is refused with 20",
+            ),
+            (
+                4,
+                r(20),
+                "a master that waits to be settled is refused with 20",
+            ),
+            (4, r(21), "a size within its range is refused with 21"),
+            (4, r(17), not_its_own),
+            (
+                4,
+                2,
+                "a master is settled on another cartridge than it was answered",
+            ),
+            (5, 1, "a master is settled that does not wait for it"),
+            (5, r(21), "a refusal 21 comes before 20"),
+            (5, r(17), not_its_own),
+            (6, r(19), not_its_own),
+            (7, 2, "a master is settled that does not wait for it"),
+            (8, 1, "a master is settled that does not wait for it"),
+            (9, r(20), not_its_own),
+            (10, 1, "a master is settled that does not wait for it"),
+            (11, 4, "a cartridge is opened out of turn"),
+        ] {
+            assert_eq!(found(place, word), Some(expected), "{place}: {word}");
+        }
+    }
+
+    /// The plan has the settled size, or the greatest till then.
+    #[test]
+    fn the_own_plan_goes_by_settled_sizes() {
+        let mut told = Told::new(OPEN.with_trailer(2));
+        for (command, word) in [
+            (Reserve(5, 33), 1),
+            (Settle(1, 9), 1),
+            (Reserve(5, 33), 1),
+            (Switch(1), 1),
+            (Settle(3, 9), r(20)),
+            (Reserve(1, 1), 1),
+        ] {
+            told.take_in(command, word).expect("a right answer");
+        }
+        let plans = [0, 1].map(|production| told.own_plan(production).entries());
+        assert_eq!(plans, [vec![(11, 1), (35, 1)], vec![(3, 1)]]);
     }
 
     #[test]

@@ -75,7 +75,7 @@ fn noise(rng: &mut Rng) -> Vec<u8> {
     };
     for _ in 0..rng.between(0, 30) {
         bytes.push(if rng.chance(70) {
-            rng.pick(&[0, 1, 1, 2, 3, 3, 4, 5, 0x11])
+            rng.pick(&[0, 1, 1, 2, 3, 3, 4, 5, 6, 7, 0x11])
         } else {
             rng.word() as u8
         });
@@ -100,7 +100,7 @@ fn damaged_opening(rng: &mut Rng) -> Vec<Vec<u8>> {
     let mut bytes = odd_opening(rng);
     match rng.between(0, 3) {
         0 => bytes.truncate(rng.place(bytes.len())),
-        1 => bytes[0] = rng.pick(&[0, 1, 2, 3, 4, 5, 0x0B, 0x10, 0x11, 0x11, 255]),
+        1 => bytes[0] = rng.pick(&[0, 1, 2, 3, 4, 5, 6, 7, 0x0B, 0x10, 0x11, 0x11, 255]),
         _ => {}
     }
     let mut pieces = vec![bytes];
@@ -133,7 +133,7 @@ fn around_the_limit(rng: &mut Rng) -> Vec<Vec<u8>> {
 /// About as many bytes as are printed at most, a fault among them.
 fn around_the_longest(rng: &mut Rng) -> Vec<u8> {
     let mut bytes = list(rng, 20).bytes();
-    let fill = rng.pick(&[0, 1, 2, 3, 5, 0x11]);
+    let fill = rng.pick(&[0, 1, 2, 3, 5, 6, 7, 0x11]);
     bytes.resize(MOST_PRINTED - 4 + rng.place(7), fill);
     bytes
 }
@@ -141,12 +141,15 @@ fn around_the_longest(rng: &mut Rng) -> Vec<u8> {
 /// What a faulty command looks like.
 fn odd_command(rng: &mut Rng) -> Vec<u8> {
     match rng.between(0, 6) {
-        0..=1 => vec![rng.pick(&[0, 6, 7, 8, 0x0B, 0x10, 0x12, 0x80, 255])],
+        0..=1 => vec![rng.pick(&[0, 8, 9, 0x0B, 0x10, 0x12, 0x80, 0x86, 255])],
         2 => {
             let shelve = Command::Shelve(rng.word() as u32);
             let withdraw = Command::Withdraw(rng.word() as u16);
             let switch = Command::Switch(rng.word() as u8);
-            let bytes = rng.pick(&[shelve, withdraw, switch]).bytes();
+            let reserve = Command::Reserve(rng.word() as u32, rng.word() as u32);
+            let settle = Command::Settle(rng.word() as u16, rng.word() as u32);
+            let commands = [shelve, withdraw, switch, reserve, settle];
+            let bytes = rng.pick(&commands).bytes();
             cut_short(rng, bytes)
         }
         3 => odd_opening(rng),
@@ -181,7 +184,7 @@ pub fn damage(rng: &mut Rng, pieces: &mut Vec<Vec<u8>>) {
             3 => {
                 let place = rng.place(pieces.len());
                 if let Some(byte) = pieces[place].first_mut() {
-                    *byte = rng.pick(&[0, 1, 2, 3, 4, 5, 0x11, 255]);
+                    *byte = rng.pick(&[0, 1, 2, 3, 4, 5, 6, 7, 0x11, 255]);
                 }
             }
             4..=5 => pieces.push(odd_command(rng)),

@@ -4,9 +4,9 @@
 use crate::cases::{sent, totals, Case, Cases};
 use crate::lists::most_trailer;
 use crate::sheet_cases::sheet;
-use crate::wire::Command::{self, Count, Shelve, Switch, Withdraw};
+use crate::wire::Command::{self, Count, Reserve, Settle, Shelve, Withdraw};
 use crate::wire::{opening, refused_word as r, Opening, MOST_CAPACITY, MOST_COMMANDS};
-use crate::withdrawal_cases;
+use crate::{range_cases, withdrawal_cases};
 
 const OPEN: Opening = opening(60, 512, 6);
 
@@ -186,7 +186,7 @@ pub fn run(cases: &mut Cases) {
     for case in &CASES {
         cases.shelved(case, &case.stream());
     }
-    for case in &withdrawal_cases::CASES {
+    for case in withdrawal_cases::CASES.iter().chain(&range_cases::CASES) {
         cases.shelved(case, &with_a_trailer(case));
     }
     trailers_of_two_bytes(cases);
@@ -199,20 +199,22 @@ pub fn run(cases: &mut Cases) {
 /// much less in each size.
 fn with_a_trailer(case: &Case) -> Vec<u8> {
     let mut commands = case.commands();
-    let sizes: Vec<u32> = commands
-        .iter()
-        .filter_map(|command| match command {
-            Shelve(size) => Some(*size),
-            Count | Withdraw(_) | Switch(_) => None,
-        })
-        .collect();
-    let opening = case.opening.with_trailer(most_trailer(&sizes));
-    for command in &mut commands {
-        if let Shelve(size) = command {
-            *size = opening.bare(*size);
-        }
+    let sent_sizes = commands.iter_mut().flat_map(sizes);
+    let sent_sizes: Vec<u32> = sent_sizes.map(|size| *size).collect();
+    let opening = case.opening.with_trailer(most_trailer(&sent_sizes));
+    for size in commands.iter_mut().flat_map(sizes) {
+        *size = opening.bare(*size);
     }
     sent(opening, &commands)
+}
+
+/// The sizes that a command sends.
+fn sizes(command: &mut Command) -> Vec<&mut u32> {
+    match command {
+        Shelve(size) | Settle(_, size) => vec![size],
+        Reserve(least, greatest) => vec![least, greatest],
+        _ => Vec::new(),
+    }
 }
 
 /// The most significant byte comes first, behind m and before the commands: each
@@ -221,7 +223,7 @@ fn with_a_trailer(case: &Case) -> Vec<u8> {
 fn trailers_of_two_bytes(cases: &mut Cases) {
     for trailer in [
         0x0000, 0x0003, 0x0100, 0x0101, 0x0102, 0x0201, 0x0202, 0x0300, 0x0303, 0x0400, 0x0404,
-        0x0500, 0x0501, 0x0606, 0x1101, 0x1111, 0xFF00, 0xFFFF,
+        0x0500, 0x0501, 0x0606, 0x0707, 0x1101, 0x1111, 0xFF00, 0xFFFF,
     ] {
         let size = 100_000 - u32::from(trailer);
         let commands = [Shelve(size), Shelve(size + 1), Count, Shelve(size - 1)];

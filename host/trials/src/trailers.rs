@@ -26,20 +26,24 @@ enum Sent {
     OwnClass,
     OtherClass,
     Zero,
+    RangeWrong,
     TrailerTooMuch,
     PastWidth,
     StockSpent,
     TakenOut,
+    Settled,
 }
 
-const SENT: [(Sent, &str); 7] = [
+const SENT: [(Sent, &str); 9] = [
     (Sent::OwnClass, "placed in the class of the bare size"),
     (Sent::OtherClass, "in another class"),
     (Sent::Zero, "refused with 8"),
+    (Sent::RangeWrong, "with 19"),
     (Sent::TrailerTooMuch, "with 9 for the trailer alone"),
     (Sent::PastWidth, "with 9 where 32 bits of the sum fit"),
     (Sent::StockSpent, "with 10"),
     (Sent::TakenOut, "taken out"),
+    (Sent::Settled, "settled"),
 ];
 
 impl Sent {
@@ -48,23 +52,23 @@ impl Sent {
     fn of(opening: &Opening, command: Command, word: u16) -> Option<Self> {
         let capacity = u64::from(opening.capacity);
         let class = |size: u64| size_class(size, capacity);
-        Some(match (command, answer(word)) {
-            (Command::Shelve(size), Ok(_)) => {
-                if class(size.into()) == class(opening.stored(size)) {
-                    Self::OwnClass
-                } else {
-                    Self::OtherClass
-                }
-            }
-            (Command::Shelve(_), Err(8)) => Self::Zero,
-            (Command::Shelve(size), Err(9)) if size <= opening.capacity => Self::TrailerTooMuch,
-            (Command::Shelve(size), Err(9)) => {
+        let size = match (command, answer(word)) {
+            (Command::Withdraw(_), Ok(_)) => return Some(Self::TakenOut),
+            (Command::Settle(..), Ok(_)) => return Some(Self::Settled),
+            _ => command.item()?,
+        };
+        Some(match answer(word) {
+            Ok(_) if class(size.into()) == class(opening.stored(size)) => Self::OwnClass,
+            Ok(_) => Self::OtherClass,
+            Err(8) => Self::Zero,
+            Err(19) => Self::RangeWrong,
+            Err(9) if size <= opening.capacity => Self::TrailerTooMuch,
+            Err(9) => {
                 let last_32_bits = opening.stored(size) as u32;
                 (last_32_bits <= opening.capacity).then_some(Self::PastWidth)?
             }
-            (Command::Shelve(_), Err(10)) => Self::StockSpent,
-            (Command::Withdraw(_), Ok(_)) => Self::TakenOut,
-            _ => return None,
+            Err(10) => Self::StockSpent,
+            Err(_) => return None,
         })
     }
 }
@@ -126,7 +130,7 @@ impl Trailers {
 }
 
 /// Each of these with how often it was met.
-fn listed<W: fmt::Display, const N: usize>(words: [W; N], times: &[u64; N]) -> String {
+pub fn listed<W: fmt::Display, const N: usize>(words: [W; N], times: &[u64; N]) -> String {
     let listed = words.iter().zip(times);
     let listed: Vec<String> = listed
         .map(|(word, times)| format!("{word}: {times}"))
@@ -155,13 +159,18 @@ mod tests {
     use super::*;
     use crate::compare::by_paper;
     use crate::rng::Rng;
-    use crate::{productions, streams, withdrawals};
+    use crate::{productions, ranges, streams, withdrawals};
 
     #[test]
     fn all_is_met_in_a_short_run() {
         let mut met = Trailers::default();
         for index in 0..1000 {
-            for random in [streams::random, withdrawals::random, productions::random] {
+            for random in [
+                streams::random,
+                withdrawals::random,
+                productions::random,
+                ranges::random,
+            ] {
                 let trial = random(&mut Rng::of_trial(1, index));
                 met.add(&trial.stream, &by_paper(&trial));
             }

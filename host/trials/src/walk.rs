@@ -7,7 +7,7 @@ use std::path::PathBuf;
 use std::process::{Command, Output, Stdio};
 
 use crate::paper::{self, Shelved, Walk};
-use crate::wire::MOST_PRINTED;
+use crate::wire::has_sheet;
 
 /// What is wrong with the paper's walks over a shelf, by the numbers of the
 /// request: the figure is that of the bins, and the places read are the lesser
@@ -35,7 +35,7 @@ pub fn fault(shelved: &Shelved) -> Option<&'static str> {
 /// last command.
 pub fn by_paper(stream: &[u8]) -> String {
     match paper::shelve(stream) {
-        Ok(shelved) if stream.len() <= MOST_PRINTED => {
+        Ok(shelved) if has_sheet(stream) => {
             let line = |Walk { figure, places }| format!("{figure} {places}\n");
             shelved.walks.map(line).concat()
         }

@@ -7,7 +7,7 @@ use crate::compare::{by_paper, Outcome};
 use crate::paper;
 use crate::rows::Lent;
 use crate::walk::{self, Program};
-use crate::wire::Command::{self, Count, Shelve, Switch, Withdraw};
+use crate::wire::Command::{self, Count, Reserve, Settle, Shelve, Switch, Withdraw};
 use crate::wire::{opening, Opening, Stream, MOST_COMMANDS, MOST_PRINTED};
 
 const OPEN: Opening = opening(60, 512, 6);
@@ -42,6 +42,7 @@ pub fn run(cases: &mut Cases, program: Option<&Program>) -> Result<(), String> {
     let mut walks = Walks { cases, program };
     walks.walked("the walk after the sample", &sample(), &[4], "4 4\n0 1\n")?;
     walks.trailers()?;
+    walks.ranges()?;
     for stock in [1, 2, 3, 50, 511, 512] {
         walks.none_opened(stock)?;
         for (shelf, sizes) in SHELVES {
@@ -170,6 +171,25 @@ impl Walks<'_> {
         Ok(())
     }
 
+    /// A settled master opens nothing, and makes space for others.
+    fn ranges(&mut self) -> Result<(), String> {
+        let commands = [
+            Reserve(1, 60),
+            Count,
+            Settle(1, 1),
+            Count,
+            Shelve(31),
+            Count,
+            Reserve(6, 5),
+            Count,
+            Reserve(5, 35),
+            Count,
+        ];
+        let name = "the walk after a settling";
+        let stream = sent(opening(60, 3, 6), &commands);
+        self.walked(name, &stream, &[1, 1, 1, 1, 2], "2 3\n0 1\n")
+    }
+
     /// So many opened of the second production and then of the first. The walk of
     /// either goes over the whole stock.
     fn two_productions(&mut self) -> Result<(), String> {
@@ -218,6 +238,8 @@ impl Walks<'_> {
             [&shelved[..], &[0x04]].concat(),
             [&shelved[..], &[0x05]].concat(),
             [&shelved[..], &[0x05, 0x02]].concat(),
+            [&shelved[..], &[0x06, 0x00]].concat(),
+            [&shelved[..], &[0x07, 0x00]].concat(),
             [&shelved[..], &[0x08]].concat(),
             shelved[..12].to_vec(),
             [&shelved[..], &shelved].concat(),
@@ -235,7 +257,10 @@ impl Walks<'_> {
             let name = "no walk after an overlong stream";
             self.walked(name, &stream, &[], "")?;
         }
-        Ok(())
+        // One that is accepted, and too long to be printed.
+        let name = "no walk after an overlong stream of ranges";
+        let ranges = sent(OPEN, &[Reserve(1, 1); MOST_COMMANDS]);
+        self.walked(name, &ranges, &[], "")
     }
 }
 

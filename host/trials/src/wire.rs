@@ -8,6 +8,8 @@ const SHELVE: u8 = 0x02;
 const COUNT: u8 = 0x03;
 const WITHDRAW: u8 = 0x04;
 const SWITCH: u8 = 0x05;
+const RESERVE: u8 = 0x06;
+const SETTLE: u8 = 0x07;
 
 /// The largest capacity; the least is 1.
 pub const MOST_CAPACITY: u32 = 16_777_216;
@@ -23,6 +25,12 @@ pub const MOST_COMMANDS: usize = 4096;
 pub const PRODUCTIONS: usize = 2;
 /// The most bytes of a stream that is printed, as answers or as a sheet.
 pub const MOST_PRINTED: usize = 32_768;
+
+/// Whether a stream is short enough to be printed. Longer ones can be accepted, but
+/// in the place of their sheet stands a line.
+pub fn has_sheet(stream: &[u8]) -> bool {
+    stream.len() <= MOST_PRINTED
+}
 
 /// Added to a refusal's number in an answer word.
 const REFUSED: u16 = 32_768;
@@ -114,15 +122,53 @@ pub enum Command {
     Withdraw(u16),
     /// Makes the commands after it belong to this production.
     Switch(u8),
+    /// Shelves an item that is of this least size and this greatest, by the
+    /// greatest.
+    Reserve(u32, u32),
+    /// Tells the size of what the command of this number shelved so.
+    Settle(u16, u32),
 }
 
 impl Command {
+    /// The size that the command sends an item with, or with a range the greatest.
+    pub fn item(self) -> Option<u32> {
+        match self {
+            Self::Shelve(size) | Self::Reserve(_, size) => Some(size),
+            Self::Count | Self::Withdraw(_) | Self::Switch(_) | Self::Settle(..) => None,
+        }
+    }
+
+    /// The number that it names a command by.
+    pub fn names(self) -> Option<u16> {
+        match self {
+            Self::Withdraw(number) | Self::Settle(number, _) => Some(number),
+            Self::Shelve(_) | Self::Count | Self::Switch(_) | Self::Reserve(..) => None,
+        }
+    }
+
+    /// The same with another number in place of that which it names, if any.
+    pub fn naming(self, number: u16) -> Self {
+        match self {
+            Self::Withdraw(_) => Self::Withdraw(number),
+            Self::Settle(_, size) => Self::Settle(number, size),
+            other => other,
+        }
+    }
+
     pub fn bytes(&self) -> Vec<u8> {
         match self {
             Self::Shelve(size) => [&[SHELVE][..], &size.to_be_bytes()].concat(),
             Self::Count => vec![COUNT],
             Self::Withdraw(number) => [&[WITHDRAW][..], &number.to_be_bytes()].concat(),
             Self::Switch(production) => vec![SWITCH, *production],
+            Self::Reserve(least, greatest) => {
+                let (least, greatest) = (least.to_be_bytes(), greatest.to_be_bytes());
+                [&[RESERVE][..], &least, &greatest].concat()
+            }
+            Self::Settle(number, size) => {
+                let (number, size) = (number.to_be_bytes(), size.to_be_bytes());
+                [&[SETTLE][..], &number, &size].concat()
+            }
         }
     }
 }
@@ -159,16 +205,6 @@ impl Stream {
         self.pieces().concat()
     }
 
-    /// The stored size of the item that the command of this number sends, if it
-    /// sends one.
-    pub fn stored_by(&self, number: u16) -> Option<u64> {
-        let place = usize::from(number).checked_sub(1)?;
-        match self.commands.get(place)? {
-            Command::Shelve(size) => Some(self.opening.stored(*size)),
-            Command::Count | Command::Withdraw(_) | Command::Switch(_) => None,
-        }
-    }
-
     /// The production that each command belongs to; a switch to that before it.
     pub fn productions(&self) -> impl Iterator<Item = usize> + '_ {
         self.commands.iter().scan(0, |current, command| {
@@ -181,16 +217,16 @@ impl Stream {
     }
 
     /// The accepted items of a production by these answers, up to the first that
-    /// it took out, as a plan has them: each with its bin.
+    /// it took out or settled, as a plan has them: each with its bin, by the
+    /// greatest size if it has a range.
     pub fn placed(&self, answers: &[u16], production: usize) -> Vec<(u32, u32)> {
         let answered = self.commands.iter().zip(answers).zip(self.productions());
         let own = answered.filter(|&(_, its)| its == production);
         let accepted = own.filter_map(|((&command, &word), _)| Some((command, answer(word).ok()?)));
-        let to_withdrawal =
-            accepted.take_while(|(command, _)| !matches!(command, Command::Withdraw(_)));
-        let placed = to_withdrawal.filter_map(|(command, bin)| match command {
-            Command::Shelve(size) => Some((entry_size(self.opening.stored(size)), bin.into())),
-            _ => None,
+        let to_the_first = accepted.take_while(|(command, _)| command.names().is_none());
+        let placed = to_the_first.filter_map(|(command, bin)| {
+            let stored = self.opening.stored(command.item()?);
+            Some((entry_size(stored), bin.into()))
         });
         placed.collect()
     }
@@ -281,7 +317,19 @@ fn first_part(bytes: &[u8]) -> Option<(Part<'_>, &[u8])> {
             (Part::Command(Command::Withdraw(number)), rest)
         }
         [SWITCH, production, ref rest @ ..] => (Part::Command(Command::Switch(production)), rest),
-        [OPEN | OPEN_WITH_TRAILER | SHELVE | WITHDRAW | SWITCH, ..] => (Part::CutShort(bytes), &[]),
+        [RESERVE, a, b, c, d, e, f, g, h, ref rest @ ..] => {
+            let least = u32::from_be_bytes([a, b, c, d]);
+            let greatest = u32::from_be_bytes([e, f, g, h]);
+            (Part::Command(Command::Reserve(least, greatest)), rest)
+        }
+        [SETTLE, a, b, c, d, e, f, ref rest @ ..] => {
+            let number = u16::from_be_bytes([a, b]);
+            let size = u32::from_be_bytes([c, d, e, f]);
+            (Part::Command(Command::Settle(number, size)), rest)
+        }
+        [OPEN | OPEN_WITH_TRAILER | SHELVE | WITHDRAW | SWITCH | RESERVE | SETTLE, ..] => {
+            (Part::CutShort(bytes), &[])
+        }
         [byte, ref rest @ ..] => (Part::Unknown(byte), rest),
     })
 }
@@ -312,13 +360,27 @@ pub fn by_other_opening(stream: &[u8]) -> Option<Vec<u8>> {
     let mut bytes = Opening { trailer, ..opening }.bytes();
     for part in parts {
         bytes.extend(match part {
-            Part::Command(Command::Shelve(size @ 1..)) => {
-                Command::Shelve(entry_size(opening.stored(size))).bytes()
-            }
+            Part::Command(command) => by_stored_sizes(command, opening).bytes(),
             other => other.bytes(),
         });
     }
     Some(bytes)
+}
+
+/// The command with stored sizes, but for a size of 0 and a least of 0. What passes
+/// 32 bits is the largest of them; a least above its greatest stays above it.
+fn by_stored_sizes(command: Command, opening: Opening) -> Command {
+    let stored = |size: u32| entry_size(opening.stored(size));
+    match command {
+        Command::Shelve(size @ 1..) => Command::Shelve(stored(size)),
+        Command::Reserve(least @ 1.., greatest) => {
+            let below = u32::from(least > greatest);
+            Command::Reserve(stored(least), stored(greatest).min(u32::MAX - below))
+        }
+        Command::Reserve(0, greatest) => Command::Reserve(0, stored(greatest)),
+        Command::Settle(number, size) => Command::Settle(number, stored(size)),
+        other => other,
+    }
 }
 
 /// An answer word: the bin, the count or the production, or else the refusal's
@@ -341,15 +403,17 @@ mod tests {
     use super::*;
 
     /// The paper's sample with its first master and its count, in the paper's
-    /// bytes, and then the requests' that take the master out and switch to the
-    /// other production.
-    const SAMPLE: [u8; 19] = [
-        1, 0, 0, 0, 0x3C, 0, 4, 6, 2, 0, 0, 0, 0x23, 3, 4, 0, 1, 5, 1,
+    /// bytes, and then the requests' that take the master out, switch to the other
+    /// production, shelve one of a range and settle it.
+    const SAMPLE: [u8; 35] = [
+        1, 0, 0, 0, 0x3C, 0, 4, 6, 2, 0, 0, 0, 0x23, 3, 4, 0, 1, 5, 1, 6, 0, 0, 1, 2, 0, 0, 3, 4,
+        7, 0, 5, 0, 0, 2, 3,
     ];
 
     /// The same opened by the other command, with a trailer of 1,029.
-    const TRAILED: [u8; 21] = [
-        0x11, 0, 0, 0, 0x3C, 0, 4, 6, 4, 5, 2, 0, 0, 0, 0x23, 3, 4, 0, 1, 5, 1,
+    const TRAILED: [u8; 37] = [
+        0x11, 0, 0, 0, 0x3C, 0, 4, 6, 4, 5, 2, 0, 0, 0, 0x23, 3, 4, 0, 1, 5, 1, 6, 0, 0, 1, 2, 0,
+        0, 3, 4, 7, 0, 5, 0, 0, 2, 3,
     ];
 
     fn read_and_written(bytes: &[u8], opening: Opening) {
@@ -360,6 +424,8 @@ mod tests {
                 Command::Count,
                 Command::Withdraw(1),
                 Command::Switch(1),
+                Command::Reserve(0x0102, 0x0304),
+                Command::Settle(5, 0x0203),
             ],
         };
         assert_eq!(stream.bytes(), bytes);
@@ -372,6 +438,8 @@ mod tests {
                 Some(1..=4) => Some((3, len)),
                 Some(7..=8) => Some((3, len + 6)),
                 Some(10) => Some((3, len + 9)),
+                Some(12..=19) => Some((3, len + 11)),
+                Some(21..=26) => Some((3, len + 20)),
                 Some(_) => None,
             };
             let refusal = Stream::read(&bytes[..cut]).err();
@@ -396,7 +464,7 @@ mod tests {
                 }
             }
         }
-        for first in [0, 2, 3, 4, 5, 0x0B, 0x10, 0x12, 0xFF] {
+        for first in [0, 2, 3, 4, 5, 6, 7, 0x0B, 0x10, 0x12, 0xFF] {
             let mut stream = TRAILED;
             stream[0] = first;
             assert_eq!(Stream::read(&stream), refuse(1, 0));
@@ -408,7 +476,7 @@ mod tests {
         for production in 0..=u8::MAX {
             let stream = [&SAMPLE[..], &[5, production, 3]].concat();
             let refusal = Stream::read(&stream).err();
-            let above = Refusal { number: 18, at: 19 };
+            let above = Refusal { number: 18, at: 35 };
             assert_eq!(refusal, (production > 1).then_some(above));
         }
     }
@@ -436,6 +504,26 @@ mod tests {
         let words = [1, 1, 1, 1, refused_word(17), 1, 0, 2, 1, 1];
         assert_eq!(stream.placed(&words, 0), [(35, 1), (36, 2)]);
         assert_eq!(stream.placed(&words, 1), [(22, 1), (23, 1)]);
+    }
+
+    #[test]
+    fn what_is_placed_goes_by_the_greatest_up_to_the_first_settling() {
+        use Command::{Reserve, Settle, Shelve};
+        let stream = Stream {
+            opening: opening(60, 4, 6).with_trailer(1),
+            commands: vec![
+                Reserve(20, 34),
+                Settle(2, 20),
+                Shelve(21),
+                Settle(1, 30),
+                Reserve(9, 10),
+            ],
+        };
+        let words = [1, refused_word(20), 2, 1, 3];
+        assert_eq!(stream.placed(&words, 0), [(35, 1), (22, 2)]);
+        let unsettled = [1, refused_word(20), 2, refused_word(21), 3];
+        let placed = [(35, 1), (22, 2), (11, 3)];
+        assert_eq!(stream.placed(&unsettled, 0), placed);
     }
 
     #[test]
@@ -502,8 +590,33 @@ mod tests {
     }
 
     #[test]
+    fn stored_sizes_of_a_range_stand_for_the_trailer() {
+        use Command::{Reserve, Settle};
+        const MOST: u32 = u32::MAX;
+        let opening = opening(60, 4, 6).with_trailer(5);
+        for (command, stored) in [
+            (Reserve(1, 9), Reserve(6, 14)),
+            (Reserve(0, 9), Reserve(0, 14)),
+            (Reserve(0, 0), Reserve(0, 5)),
+            (Reserve(9, 0), Reserve(14, 5)),
+            (Reserve(1, MOST), Reserve(6, MOST)),
+            (Reserve(MOST, MOST), Reserve(MOST, MOST)),
+            (Reserve(MOST - 1, MOST), Reserve(MOST, MOST)),
+            // What is wrong with the range is still wrong with it.
+            (Reserve(MOST, MOST - 1), Reserve(MOST, MOST - 1)),
+            (Reserve(MOST - 4, MOST - 5), Reserve(MOST, MOST - 1)),
+            (Reserve(MOST - 5, MOST - 6), Reserve(MOST, MOST - 1)),
+            (Settle(7, 0), Settle(7, 5)),
+            (Settle(7, 9), Settle(7, 14)),
+            (Settle(7, MOST), Settle(7, MOST)),
+        ] {
+            assert_eq!(by_stored_sizes(command, opening), stored, "{command:?}");
+        }
+    }
+
+    #[test]
     fn a_stream_is_its_parts_faulty_or_not() {
-        let second = [2, 1, 9, 3, 5, 7, 1, 0];
+        let second = [2, 1, 9, 3, 5, 7, 1, 0, 6, 0, 7, 0];
         for cut in 0..=TRAILED.len() {
             let bytes = [&TRAILED[..cut], &second].concat();
             let mut offset = 0;
@@ -521,7 +634,7 @@ mod tests {
     fn answers_and_words_go_both_ways() {
         assert_eq!(answer(0), Ok(0));
         assert_eq!(answer(32_767), Ok(32_767));
-        for number in [8, 9, 10, 17] {
+        for number in [8, 9, 10, 17, 19, 20, 21] {
             assert_eq!(answer(refused_word(number)), Err(number));
         }
     }
