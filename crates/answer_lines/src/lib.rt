@@ -65,7 +65,7 @@ pub fn put_answers(
         let command = front.command;
         let word = words[done];
         let units = free[done];
-        let outcome = refusals::outcome_of(command, word, units);
+        let outcome = words::outcome_of(command, word, units);
         let number = done + 1;
         let answer = Answer { number, outcome };
         at = put_answer(out, at, answer);

@@ -41,7 +41,7 @@ pub fn raise(t: &mut [u32; ROW_WORDS], base: usize, shape: Shape, place: usize, 
 }
 
 // Sets a place, and carries the new maximum upward as far as it changes anything.
-fn renew(t: &mut [u32; ROW_WORDS], base: usize, shape: Shape, place: usize, value: u32)
+pub fn renew(t: &mut [u32; ROW_WORDS], base: usize, shape: Shape, place: usize, value: u32)
     requires tree { ⌜ Tree base shape (now t) ⌝ }
     requires inside { ⌜ place < shape .places ⌝ }
     ensures { λ _. ⌜ Stored base shape (now (t .entry)) place value (now (t .exit)) ⌝ }

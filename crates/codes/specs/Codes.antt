@@ -3,8 +3,9 @@ use mathlib.Core.Path.{_≡_}
 use mathlib.Core.Logic.{_↔_}
 use mathlib.Core.List.{List}
 use Prim.Native.Nat.{ℕ, _+_, _*_, _^_, _<_}
-use Rattle.packing.specs.declared.{Entry.Entry, StreamResult.StreamResult, PlanResult.PlanResult}
-use Rattle.packing.specs.Refusals.{streamNumber, planNumber}
+use Rattle.packing.specs.Prelude.{if_then_else_}
+use Rattle.packing.specs.declared.{Entry.Entry, StreamResult.StreamResult, PlanResult.PlanResult, RepackResult.RepackResult}
+use Rattle.packing.specs.Refusals.{streamNumber, planNumber, rowNumber}
 use Rattle.worst_case.specs.PlanFits.{Fits}
 
 -- A refusal of any call, with its offset or place: 2^63 + number x 2^32 + place.
@@ -30,12 +31,24 @@ abbrev pub PlaceFits : PlanResult → Type 0
 PlaceFits PlanResult.Passed = Unit {0}
 PlaceFits (PlanResult.Refused reason place) = place < 2 ^ 32
 
+-- Repacked: 2^32 if the move saves nothing, and the new count.
+abbrev pub repackCode : RepackResult → ℕ
+repackCode (RepackResult.Repacked count savesNothing) = (if savesNothing then 2 ^ 32 else 0) + count
+repackCode (RepackResult.Refused reason place) = refusalCode (rowNumber reason) place
+
+abbrev pub RepackFits : RepackResult → Type 0
+RepackFits (RepackResult.Repacked count savesNothing) = count < 2 ^ 32
+RepackFits (RepackResult.Refused reason place) = place < 2 ^ 32
+
 -- The number gives the result back: of the results whose figures fit, no two share a number. Proved in ../proofs/Back.antt.
 abbrev pub StreamCodeBack : Type 0
 StreamCodeBack = (r s : StreamResult) → FiguresFit r → FiguresFit s → streamCode r ≡ streamCode s → r ≡ s
 
 abbrev pub PlanCodeBack : Type 0
 PlanCodeBack = (r s : PlanResult) → PlaceFits r → PlaceFits s → planCode r ≡ planCode s → r ≡ s
+
+abbrev pub RepackCodeBack : Type 0
+RepackCodeBack = (r s : RepackResult) → RepackFits r → RepackFits s → repackCode r ≡ repackCode s → r ≡ s
 
 -- The number is 0 exactly when the plan fits.
 abbrev pub ZeroExactly : (capacity k : ℕ) (plan : List Entry) (sizes : List ℕ) (code : ℕ) → Type 0

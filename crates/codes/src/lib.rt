@@ -1,9 +1,10 @@
 // A result as one 64-bit number, for C and Rust.
 use packing::PlanResult;
+use packing::RepackResult;
 use packing::StreamResult;
 ghost use mathlib.Core.Path.{_≡_};
 ghost use Prim.Native.Nat.{_^_, _<_};
-ghost use Rattle.codes.specs.Codes.{refusalCode, streamCode, FiguresFit, planCode, PlaceFits};
+ghost use Rattle.codes.specs.Codes.{refusalCode, streamCode, FiguresFit, planCode, PlaceFits, repackCode, RepackFits};
 
 // A refusal of any call: its number, and its offset or place.
 fn refusal_code(number: u16, place: usize) -> u64
@@ -47,6 +48,29 @@ pub fn plan_code(r: PlanResult) -> u64
         PlanResult::Passed => 0,
         PlanResult::Refused { reason, place } => {
             let number = refusals::plan_number(reason);
+            refusal_code(number, place)
+        }
+    }
+}
+
+// What a repacking returns.
+pub fn repack_code(r: RepackResult) -> u64
+    requires { ⌜ RepackFits r ⌝ }
+    ensures { λ code. ⌜ code ≡ repackCode r ⌝ }
+{
+    match r {
+        RepackResult::Repacked {
+            count,
+            saves_nothing,
+        } => {
+            let figure = count as u64;
+            if saves_nothing {
+                return 4294967296 + figure;
+            }
+            figure
+        }
+        RepackResult::Refused { reason, place } => {
+            let number = refusals::row_number(reason);
             refusal_code(number, place)
         }
     }

@@ -2,7 +2,7 @@
 -- their commands.
 use Prim.Native.Nat.{ℕ, suc, _+_, _-_, _≤_, _<_}
 use mathlib.Core.Path.{_≡_, refl, sym, ap, _∙_}
-use mathlib.Core.Bool.{true, false≢true}
+use mathlib.Core.Bool.{Bool, true, false, false≢true}
 use mathlib.Core.List.{List, [], _∷_, map, zipWith}
 use native.Mathlib.Omega.{arith}
 use borrow.Author.Tests.{lt-ltb, le-ltb}
@@ -10,8 +10,8 @@ use lib.Dec.{eqb, ltb}
 use Rattle.packing.specs.Prelude.{if_then_else_, Opening, Production, First, Second, Command, Shelve, Count, Withdraw, Switch, Reserve, Settle, Outcome, Placed, Counted, Withdrawn, Switched, Settled, Refused}
 use Rattle.packing.specs.Prelude.{ItemReason, SizeZero, AboveCapacity, StockSpent, NotShelved, RangeWrong, NotReserved, OutsideRange}
 use Rattle.packing.specs.Prelude.{StreamReason, NoOpening, UnknownOpcode, CutShort, SecondOpening, OutsideLimits, TooManyCommands, TooFewWords, NoProduction, StreamResult}
-use Rattle.packing.specs.Prelude.{PlanReason, CapacityOutside, TooLong, SizeOutside, BinOutside, Overfull, OtherItems, PlanResult}
-use Rattle.packing.specs.Refusals.{streamNumber, itemNumber, planNumber, word, freeUnits, itemReason, outcomeOf}
+use Rattle.packing.specs.Prelude.{PlanReason, CapacityOutside, TooLong, SizeOutside, BinOutside, Overfull, OtherItems, PlanResult, RowReason, RepackResult}
+use Rattle.packing.specs.Refusals.{streamNumber, itemNumber, planNumber, rowNumber, word, freeUnits, itemReason, outcomeOf}
 use Rattle.packing.specs.Productions.{productionNumber, productionOf, other}
 use Rattle.packing.specs.Bins.{Packing, freeOn, stored}
 use Rattle.packing.specs.Placing.{binFor, placed}
@@ -20,7 +20,7 @@ use Rattle.packing.specs.Settling.{settling}
 use Rattle.packing.specs.Shelves.{Shelf, emptyShelf, of, own, stockLeft}
 use Rattle.packing.specs.Sending.{shelvesItem, itemOf}
 use Rattle.packing.specs.Run.{next, answerOn, nextShelf, runFrom}
-use Rattle.packing.specs.Claims.{StreamGivesBack, PlanGivesBack, WordsGiveBack}
+use Rattle.packing.specs.Claims.{StreamGivesBack, PlanGivesBack, RepackGivesBack, WordsGiveBack}
 use Rattle.packing.proofs.Limits.{in-limits}
 use Rattle.packing.proofs.Tests.{clash}
 use Rattle.packing.proofs.Productions.{Whose, its-own, the-others, whose, own-after, other-after}
@@ -69,6 +69,20 @@ plan-reason BinOutside = refl
 plan-reason Overfull = refl
 plan-reason OtherItems = refl
 
+rowReason : (number : ℕ) → RowReason
+rowReason n =
+    if eqb n 11 then RowReason.CapacityOutside else
+    if eqb n 12 then RowReason.TooLong else
+    if eqb n 13 then RowReason.SizeOutside else
+    RowReason.TooFewWords
+
+row-reason : (reason : RowReason) → rowReason (rowNumber reason) ≡ reason
+unfolding rowReason
+row-reason RowReason.CapacityOutside = refl
+row-reason RowReason.TooLong = refl
+row-reason RowReason.SizeOutside = refl
+row-reason RowReason.TooFewWords = refl
+
 item-reason : (reason : ItemReason) → itemReason (itemNumber reason) ≡ reason
 item-reason SizeZero = refl
 item-reason AboveCapacity = refl
@@ -85,6 +99,9 @@ stream-number-back r s e = sym (stream-reason r) ∙ ap streamReason e ∙ strea
 pub plan-number-back : (r s : PlanReason) → planNumber r ≡ planNumber s → r ≡ s
 plan-number-back r s e = sym (plan-reason r) ∙ ap planReason e ∙ plan-reason s
 
+pub row-number-back : (r s : RowReason) → rowNumber r ≡ rowNumber s → r ≡ s
+row-number-back r s e = sym (row-reason r) ∙ ap rowReason e ∙ row-reason s
+
 pub stream-gives-back : StreamGivesBack
 stream-gives-back (StreamResult.Accepted items opened looks) (StreamResult.Accepted items′ opened′ looks′) e = cc
 stream-gives-back (StreamResult.Accepted items opened looks) (StreamResult.Refused reason offset) e = clash (cc)
@@ -98,6 +115,22 @@ plan-gives-back PlanResult.Passed (PlanResult.Refused reason place) e = clash (c
 plan-gives-back (PlanResult.Refused reason place) PlanResult.Passed e = clash (cc)
 plan-gives-back (PlanResult.Refused reason place) (PlanResult.Refused reason′ place′) e =
     let same : planNumber reason ≡ planNumber reason′ = cc in cc (plan-number-back reason reason′ same)
+
+pub repack-gives-back : RepackGivesBack
+repack-gives-back (RepackResult.Repacked count saves) (RepackResult.Repacked count′ saves′) e =
+    let counts : count ≡ count′ = cc in
+    let flags : _≡_ {A = ℕ} (if saves then 1 else 0) (if saves′ then 1 else 0) = cc in
+    go saves saves′ counts flags
+  where
+    go : (a b : Bool) → count ≡ count′ → _≡_ {A = ℕ} (if a then 1 else 0) (if b then 1 else 0) → RepackResult.Repacked count a ≡ RepackResult.Repacked count′ b
+    go true true p q = rw p
+    go false false p q = rw p
+    go true false p q = absurd (omega (arith, q))
+    go false true p q = absurd (omega (arith, q))
+repack-gives-back (RepackResult.Repacked count saves) (RepackResult.Refused reason place) e = clash (cc)
+repack-gives-back (RepackResult.Refused reason place) (RepackResult.Repacked count saves) e = clash (cc)
+repack-gives-back (RepackResult.Refused reason place) (RepackResult.Refused reason′ place′) e =
+    let same : rowNumber reason ≡ rowNumber reason′ = cc in cc (row-number-back reason reason′ same)
 
 -- How large they are.
 pub item-number-few : (reason : ItemReason) → itemNumber reason ≤ 21

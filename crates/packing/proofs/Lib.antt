@@ -2,6 +2,7 @@
 pub mod Tests
 pub mod Limits
 pub mod SizeClasses
+pub mod Rows
 -- one item
 pub mod Putting
 pub mod Keeping

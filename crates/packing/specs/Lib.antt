@@ -17,5 +17,6 @@ pub mod Underway
 pub mod Counting
 pub mod Plans
 pub mod Compared
+pub mod Rows
 pub mod Claims
 pub mod Worked

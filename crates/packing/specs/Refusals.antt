@@ -1,5 +1,5 @@
 -- "What a refusal gives": the number of each refusal, the answer word of an outcome, and what a result gives in document 01's numbers.
-use Rattle.packing.specs.Prelude.{ℕ, _+_, _-_, Bool, true, false, List, [], _∷_, _=?_, _<?_, if_then_else_, Command, Shelve, Count, Withdraw, Switch, Reserve, Settle, StreamResult, PlanResult}
+use Rattle.packing.specs.Prelude.{ℕ, _+_, _-_, Bool, true, false, List, [], _∷_, _=?_, _<?_, if_then_else_, Command, Shelve, Count, Withdraw, Switch, Reserve, Settle, StreamResult, PlanResult, RowReason, RepackResult}
 use Rattle.packing.specs.Prelude.{Outcome, Placed, Counted, Withdrawn, Switched, Settled, Refused, ItemReason, SizeZero, AboveCapacity, StockSpent, NotShelved, RangeWrong, NotReserved, OutsideRange}
 use Rattle.packing.specs.Prelude.{StreamReason, NoOpening, UnknownOpcode, CutShort, SecondOpening, OutsideLimits, TooManyCommands, TooFewWords, NoProduction}
 use Rattle.packing.specs.Prelude.{PlanReason, CapacityOutside, TooLong, SizeOutside, BinOutside, Overfull, OtherItems}
@@ -31,6 +31,13 @@ planNumber SizeOutside = 13
 planNumber BinOutside = 14
 planNumber Overfull = 15
 planNumber OtherItems = 16
+
+-- "22 with place 0, answer row shorter than the sizes, after the checker's 11, 12 (the row alone) and 13."
+abbrev pub rowNumber : RowReason → ℕ
+rowNumber RowReason.CapacityOutside = 11
+rowNumber RowReason.TooLong = 12
+rowNumber RowReason.SizeOutside = 13
+rowNumber RowReason.TooFewWords = 22
 
 abbrev pub isRefused : Outcome → Bool
 isRefused (Placed bin free) = false
@@ -136,3 +143,8 @@ streamGives (StreamResult.Refused reason offset) = refusal (streamNumber reason)
 abbrev pub planGives : PlanResult → Returned
 planGives PlanResult.Passed = figures []
 planGives (PlanResult.Refused reason place) = refusal (planNumber reason) place
+
+-- "The new count is returned", and "the answer also says that the move saves nothing": 1 if it does, else 0.
+abbrev pub repackGives : RepackResult → Returned
+repackGives (RepackResult.Repacked count savesNothing) = figures (count ∷ (if savesNothing then 1 else 0) ∷ [])
+repackGives (RepackResult.Refused reason place) = refusal (rowNumber reason) place

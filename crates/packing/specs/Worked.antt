@@ -1,7 +1,7 @@
 -- "Worked shelves": the cases marked ● make one table, proved together by one theorem that computes over it.
 use Rattle.packing.specs.Prelude.{ℕ, _+_, _*_, _≡_, refl, Bool, true, false, List, [], _∷_, _++_, map, zipWith, flatten, take, drop, replicate, total, greatest, any, keep, _≤?_}
 use Rattle.packing.specs.Prelude.{Opening, SizeClass, A, B1, B2, X, First, Second, Command, Shelve, Count, Withdraw, Switch, Reserve, Settle, StreamResult, PlanResult, Overfull}
-use Rattle.packing.specs.Prelude.{CutShort, SecondOpening, TooFewWords, NoProduction}
+use Rattle.packing.specs.Prelude.{CutShort, SecondOpening, TooFewWords, NoProduction, RowReason, RowResult}
 use Rattle.packing.specs.Refusals.{word, freeUnits}
 use Rattle.packing.specs.SizeClasses.{sizeClass}
 use Rattle.packing.specs.Placing.{firstFit, put, decision, placed}
@@ -13,6 +13,7 @@ use Rattle.packing.specs.Run.{runFrom, shelfFrom, stepsOf, packing, outc
 use Rattle.packing.specs.Counting.{stockPlaces, walk}
 use Rattle.packing.specs.Plans.{planOf, limits, fault, entries, check}
 use Rattle.packing.specs.Compared.{acceptedSizes, numberOpened, shelfPlan, shelvedSizes, used}
+use Rattle.packing.specs.Rows.{checkSizes, checkRow}
 
 -- What a case is about.
 pub data Finding : Type 0 where
@@ -20,6 +21,7 @@ pub data Finding : Type 0 where
   words : List ℕ → Finding
   returned : StreamResult → Finding
   checked : PlanResult → Finding
+  row : RowResult → Finding
   figure : ℕ → Finding
   holds : Bool → Finding
 
@@ -227,6 +229,12 @@ table =
     returns (0x06 ∷ 0 ∷ 0 ∷ 0 ∷ 5 ∷ 0 ∷ 0 ∷ 0 ∷ []) is returned (StreamResult.Refused CutShort 8) ∷
     returns (0x06 ∷ 0 ∷ 0 ∷ 0 ∷ 5 ∷ 0 ∷ 0 ∷ 0 ∷ 31 ∷ 0x07 ∷ 0 ∷ 1 ∷ 0 ∷ 0 ∷ 0 ∷ []) is returned (StreamResult.Refused CutShort 17) ∷
     returns (0x06 ∷ 0 ∷ 0 ∷ 0 ∷ 5 ∷ 0 ∷ 0 ∷ 0 ∷ 31 ∷ 0x07 ∷ 0 ∷ 1 ∷ 0 ∷ 0 ∷ 0 ∷ 6 ∷ []) is returned (StreamResult.Accepted 1 1 1) ∷
+    -- A row of sizes: of all faults at once 11 comes first, then 12, 13 with the place of the first bad size, and 22.
+    row (checkRow 0 0 (replicate 4_097 0)) is row (RowResult.Refused RowReason.CapacityOutside 0) ∷
+    row (checkRow 60 0 (replicate 4_097 0)) is row (RowResult.Refused RowReason.TooLong 0) ∷
+    row (checkRow 60 0 (60 ∷ 61 ∷ 0 ∷ [])) is row (RowResult.Refused RowReason.SizeOutside 2) ∷
+    row (checkRow 60 2 (60 ∷ 1 ∷ 60 ∷ [])) is row (RowResult.Refused RowReason.TooFewWords 0) ∷
+    row (checkRow 60 3 (60 ∷ 1 ∷ 60 ∷ [])) is row RowResult.Sound ∷
     -- The sample stream, with two words more in each row than it has commands.
     returned (result (verdict sample 12)) is returned (StreamResult.Accepted 8 4 3) ∷
     words (rowAtExit word (verdict sample 12) (replicate 12 7)) is words (1 ∷ 2 ∷ 2 ∷ 3 ∷ 3 ∷ 4 ∷ 1 ∷ 32_778 ∷ 4 ∷ 4 ∷ 7 ∷ 7 ∷ []) ∷
@@ -234,5 +242,5 @@ table =
     []
 
 pub worked-shelves : map (λ c. c .0) table ≡ map (λ c. c .1) table
-unfolding table sizeClass total greatest any keep firstFit put decision placed heightFrom looks without withdrawal settling settlement runFrom shelfFrom stepsOf stockPlaces walk zipWith flatten used limits fault entries check widths lookup commands read
+unfolding table sizeClass total greatest any keep firstFit put decision placed heightFrom looks without withdrawal settling settlement runFrom shelfFrom stepsOf stockPlaces walk zipWith flatten used limits fault entries check checkSizes checkRow widths lookup commands read
 worked-shelves = refl

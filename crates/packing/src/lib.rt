@@ -137,3 +137,23 @@ pub enum PlanResult {
     Passed,
     Refused { reason: PlanReason, place: usize },
 }
+
+// Why a call over a row of sizes is refused: 11 to 13, as a plan is, and 22.
+pub enum RowReason {
+    CapacityOutside,
+    TooLong,
+    SizeOutside,
+    TooFewWords,
+}
+
+// What the checks of such a call come to.
+pub enum RowResult {
+    Sound,
+    Refused { reason: RowReason, place: usize },
+}
+
+// What a repacking returns: the bins that it takes, and whether the move saves nothing; or a refusal.
+pub enum RepackResult {
+    Repacked { count: usize, saves_nothing: bool },
+    Refused { reason: RowReason, place: usize },
+}

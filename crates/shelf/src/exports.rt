@@ -5,11 +5,15 @@ ghost use lib.ListN.{length, drop};
 ghost use Rattle.packing.specs.Refusals.{word, freeUnits};
 ghost use Rattle.packing.specs.Streams.{wordsLent, verdict};
 ghost use Rattle.packing.specs.Run.{result, rowAtExit};
+ghost use Rattle.packing.specs.declared.RowResult.{RowResult};
 ghost use Rattle.packing.specs.Plans.{planOf, check};
+ghost use Rattle.packing.specs.Rows.{checkRow};
+ghost use Rattle.decreasing.specs.Repack.{repackResult, answersAtExit};
+ghost use Rattle.decreasing.specs.Claims.{RepackPromises};
 ghost use Rattle.sheet.specs.Sheet.{sheet};
 ghost use Rattle.sheet.specs.Claims.{SheetPromises};
 ghost use Rattle.promises.specs.Promises.{Promises};
-ghost use Rattle.codes.specs.Codes.{streamCode, FiguresFit, planCode, PlaceFits, ZeroExactly};
+ghost use Rattle.codes.specs.Codes.{streamCode, FiguresFit, planCode, PlaceFits, repackCode, RepackFits, ZeroExactly};
 
 // Shelves the items of a command stream (`shelf::shelve`).
 #[no_mangle]
@@ -49,4 +53,16 @@ pub extern "C" fn shelf_check_plan(
 {
     let r = crate::check_rows(sizes, bins, items, capacity, k);
     codes::plan_code(r)
+}
+
+// Repacks a closed shelf (`shelf::repack`).
+#[no_mangle]
+pub extern "C" fn shelf_repack(sizes: &[u32], answers: &mut [u16], capacity: u32, old: u32) -> u64
+    ensures code { λ r. ⌜ r ≡ repackCode (repackResult capacity (now (sizes .entry)) old (checkRow capacity (length (now (answers .entry))) (now (sizes .entry)))) ⌝ }
+    ensures fits { λ _. ⌜ RepackFits (repackResult capacity (now (sizes .entry)) old (checkRow capacity (length (now (answers .entry))) (now (sizes .entry)))) ⌝ }
+    ensures answers { λ _. ⌜ now (answers .exit) ≡ answersAtExit capacity (now (sizes .entry)) (checkRow capacity (length (now (answers .entry))) (now (sizes .entry))) (now (answers .entry)) ⌝ }
+    ensures promises { λ _. ⌜ (checkRow capacity (length (now (answers .entry))) (now (sizes .entry)) ≡ RowResult.Sound → RepackPromises capacity (now (sizes .entry))) ⌝ }
+{
+    let r = crate::repack(sizes, answers, capacity, old);
+    codes::repack_code(r)
 }

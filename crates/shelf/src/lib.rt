@@ -2,16 +2,22 @@
 pub mod exports;
 
 use packing::PlanResult;
+use packing::RepackResult;
 use packing::StreamResult;
 pub use plan::check_plan;
 ghost use mathlib.Core.Path.{_≡_};
+ghost use mathlib.Core.Logic.{_↔_};
 ghost use mathlib.Core.List.{_++_};
 ghost use lib.ListN.{length, drop};
-ghost use Rattle.packing.specs.Refusals.{word, freeUnits, streamGives, planGives};
+ghost use Rattle.packing.specs.Refusals.{word, freeUnits, streamGives, planGives, repackGives};
 ghost use Rattle.packing.specs.Streams.{wordsLent, verdict};
 ghost use Rattle.packing.specs.Run.{result, rowAtExit};
+ghost use Rattle.packing.specs.declared.RowResult.{RowResult};
 ghost use Rattle.packing.specs.Plans.{planOf, check};
+ghost use Rattle.packing.specs.Rows.{checkRow, SoundRow};
 ghost use Rattle.worst_case.specs.PlanFits.{Exact};
+ghost use Rattle.decreasing.specs.Repack.{repackResult, answersAtExit};
+ghost use Rattle.decreasing.specs.Claims.{RepackPromises};
 ghost use Rattle.sheet.specs.Sheet.{sheet};
 ghost use Rattle.sheet.specs.Claims.{SheetPromises};
 ghost use Rattle.promises.specs.Promises.{Promises};
@@ -44,4 +50,16 @@ pub fn check_rows(sizes: &[u32], bins: &[u32], items: &[u32], capacity: u32, k: 
     ensures exact { λ r. ⌜ Exact capacity k (planOf (now (sizes .entry)) (now (bins .entry))) (now (items .entry)) r ⌝ }
 {
     plan_rows::check_rows(sizes, bins, items, capacity, k)
+}
+
+// Repacks a closed shelf: each size's new bin goes to the answers, in the order of the row, and the new count is returned, with whether it is not below the
+// old one. `exact` says which rows are not refused, `promises` what holds of these, field by field (decreasing/specs/Claims.antt): among them that the plan
+// passes the checker, and the figure against every plan that does.
+pub fn repack(sizes: &[u32], answers: &mut [u16], capacity: u32, old: u32) -> RepackResult
+    ensures result { λ r. ⌜ repackGives r ≡ repackGives (repackResult capacity (now (sizes .entry)) old (checkRow capacity (length (now (answers .entry))) (now (sizes .entry)))) ⌝ }
+    ensures answers { λ _. ⌜ now (answers .exit) ≡ answersAtExit capacity (now (sizes .entry)) (checkRow capacity (length (now (answers .entry))) (now (sizes .entry))) (now (answers .entry)) ⌝ }
+    ensures exact { λ _. ⌜ (checkRow capacity (length (now (answers .entry))) (now (sizes .entry)) ≡ RowResult.Sound) ↔ SoundRow capacity (length (now (answers .entry))) (now (sizes .entry)) ⌝ }
+    ensures promises { λ _. ⌜ (checkRow capacity (length (now (answers .entry))) (now (sizes .entry)) ≡ RowResult.Sound → RepackPromises capacity (now (sizes .entry))) ⌝ }
+{
+    repack::repack(sizes, answers, capacity, old)
 }

@@ -96,8 +96,8 @@ fn write_words(answers: &mut [u16], free: &mut [u32], answer: Answer)
 {
     let outcome = answer.outcome;
     let place = answer.number - 1;
-    answers[place] = refusals::word_of(outcome);
-    free[place] = refusals::free_units_of(outcome);
+    answers[place] = words::word_of(outcome);
+    free[place] = words::free_units_of(outcome);
 }
 
 // Answers the commands of one production, each in both rows by the word of its answer's number, up to the 05 that goes to the other one or to the end of

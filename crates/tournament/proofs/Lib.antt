@@ -2,4 +2,5 @@
 pub mod Powers
 pub mod Fits
 pub mod Leaves
+pub mod Empty
 pub mod Halves

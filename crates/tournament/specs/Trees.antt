@@ -5,13 +5,13 @@ use Prim.Native.Nat.{ℕ, _+_, _-_, _*_, _%_, _^_, _≤_, _<_, max}
 use lib.ListN.{length, getD, take, drop}
 use Rattle.tournament.specs.declared.Shape.{Shape}
 
--- How far apart two trees stand in the row: as many words as a tree of 512 places takes.
+-- How far apart the trees of a store stand in the row: as many words as a tree of 512 places takes.
 abbrev pub stride : ℕ
 stride = 1024
 
--- A row of five trees.
+-- A row has room for the five trees of a store, or for one tree of 4,096 places.
 abbrev pub rowWords : ℕ
-rowWords = 5 * stride
+rowWords = 8 * stride
 
 -- Node n of the tree at base b: the root is node 1, the children of node n are 2n and 2n + 1.
 abbrev pub node : (t : List ℕ) (b n : ℕ) → ℕ

@@ -9,11 +9,11 @@ ghost use lib.ListN.{getD};
 ghost use Rattle.tournament.specs.Shapes.{Fitted};
 ghost use Rattle.tournament.specs.Trees.{leaves, Tree};
 
-// How far apart two trees stand in the row: as many words as a tree of 512 places takes.
+// How far apart the trees of a store stand in the row: as many words as a tree of 512 places takes.
 pub const STRIDE: usize = 1024;
 
-// A row of five trees.
-pub const ROW_WORDS: usize = 5 * STRIDE;
+// A row has room for the five trees of a store, or for one tree of 4,096 places.
+pub const ROW_WORDS: usize = 8 * STRIDE;
 
 // How many places a tree has, and how far its root stands above them: the places are 2 to the power of the height.
 pub struct Shape {
@@ -27,14 +27,14 @@ pub enum Found {
     Nothing,
 }
 
-// The least power of two not below the stock, and its height.
-pub fn shape_of(stock: u16) -> Shape
-    requires { ⌜ stock ≤ 512 ⌝ }
-    ensures { λ r. ⌜ Fitted stock r ⌝ }
+// The least power of two not below a number of bins, and its height.
+pub fn shape_of(bins: u16) -> Shape
+    requires { ⌜ bins ≤ 4096 ⌝ }
+    ensures { λ r. ⌜ Fitted bins r ⌝ }
 {
     let mut places: usize = 1;
     let mut height: usize = 0;
-    while places < stock as usize {
+    while places < bins as usize {
         places = 2 * places;
         height += 1;
     }

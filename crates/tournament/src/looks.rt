@@ -29,7 +29,7 @@ pub struct Searched {
 
 // A look at the node whose word of the row this is.
 fn look(t: &[u32; ROW_WORDS], word: usize, taken: &mut u32) -> u32
-    requires inside { ⌜ word < 5120 ⌝ }
+    requires inside { ⌜ word < 8192 ⌝ }
     requires few { ⌜ now taken < 4294967295 ⌝ }
     ensures { λ r. ⌜ Looked (now (t .entry)) word (now (taken .entry)) r (now (taken .exit)) ⌝ }
 {

@@ -3,6 +3,7 @@ use mathlib.Core.Path.{_≡_, refl, sym, _∙_}
 use mathlib.Core.Bool.{true}
 use mathlib.Core.List.{List}
 use Prim.Native.Nat.{ℕ}
+use native.Mathlib.Omega.{arith}
 use borrow.Author.Needs.{needs}
 use Rattle.packing.specs.declared.{StreamReason.StreamReason, StreamResult.StreamResult}
 use Rattle.packing.specs.Streams.{refused, wordsLent, verdict}
@@ -77,7 +78,7 @@ returns c =
     (verdict-short (bytes v) (words v) (o .opening .given .0 .0) (o .opening .given .0 .1 .0) (sym (o .opening .given .1) ∙ v .validate .ensures) (rw (c .before .shorter .ensures) at (c .if1 .taken)))
 
 shape-of-requires : tie.Need-shape-of-requires
-shape-of-requires c κs = in-limits (told c .opening .given .0 .0) (good c) .stock .1
+shape-of-requires c κs = omega (arith, in-limits (told c .opening .given .0 .0) (good c) .stock .1)
 
 answer-all-requires : tie.Need-answer-all-requires
 answer-all-requires c κs =

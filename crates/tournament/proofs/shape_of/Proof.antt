@@ -1,4 +1,4 @@
--- `shape_of` meets its contract. The invariant: no lower power of two reaches the stock. The measure is what the height lacks of 9.
+-- `shape_of` meets its contract. The invariant: no lower power of two reaches the number of bins. The measure is what the height lacks of 12.
 use Prim.Native.Nat.{_-_}
 use native.Mathlib.Omega.{arith}
 use Rattle.tournament.proofs.Powers.{Growing, growing-start, growing-next}
@@ -6,10 +6,10 @@ use Rattle.tournament.proofs.shape_of.Statement.{statement}
 use Rattle.tournament.proofs.shape_of.Tie as tie
 
 abbrev Inv-loop : tie.InvT-loop
-Inv-loop stock places₀ height₀ places height = Growing stock places height
+Inv-loop bins places₀ height₀ places height = Growing bins places height
 
 abbrev μ-loop : tie.MeasureT-loop
-μ-loop stock places₀ height₀ places height = 9 - height
+μ-loop bins places₀ height₀ places height = 12 - height
 
 loop-holds : tie.Need-loop-holds Inv-loop μ-loop
 loop-holds c = growing-start _
@@ -29,7 +29,7 @@ loop-again c = growing-next _ _ _ (c .before .loop .inv) (c .before .before .pre
 returns : tie.Need-returns Inv-loop μ-loop
 returns c =
     let g = c .before .loop .inv in
-    record { power = g .power; enough = omega arith; few = g .few; least = g .least }
+    record { power = g .power; enough = omega arith; least = g .least }
 
 pub shape-of-spec : {M : Type 1} → statement M
 shape-of-spec = tie.close (tie.spec Inv-loop μ-loop loop-holds mul-places add-height loop-less loop-again returns)

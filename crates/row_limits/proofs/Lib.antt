@@ -1,0 +1,2 @@
+-- The walk over the sizes, one at a time.
+pub mod Walked
