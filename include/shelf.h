@@ -1,12 +1,12 @@
 /*
  * shelf.h - the shelving library: Refined First-Fit over a command stream, the
- * vault sheet of a stream, and the plan checker. docs/MANUAL.md tells the whole
- * of it. For C99 and later, and for C++.
+ * vault sheet of a stream, the plan checker, and First-Fit-Decreasing for a closed
+ * shelf. docs/MANUAL.md tells the whole of it. For C99 and later, and for C++.
  *
  * Link with libshelf.a, for x86-64 Linux: `rt staticlib shelf` proves the
  * library and writes target/staticlib/libshelf.a. A call allocates nothing; allow
- * it 192 KB of stack (shelf_stream), 216 KB (shelf_sheet) or 17 KB
- * (shelf_check_plan).
+ * it 216 KB of stack (shelf_stream), 240 KB (shelf_sheet), 17 KB
+ * (shelf_check_plan) or 100 KB (shelf_repack).
  *
  * The calls are total: every input within the rules on pointers below has the
  * result described here. No call keeps a pointer, or any state, after it
@@ -16,8 +16,8 @@
  * be valid for that many elements, aligned for its type, and not NULL, also
  * where the length is 0 (any address of the type will do then; nothing is read
  * or written through it). Neither row of shelf_stream may overlap the other or
- * the stream, nor may the sheet overlap the stream. The rows of shelf_check_plan
- * are only read and may overlap.
+ * the stream, nor may the sheet overlap the stream, nor the answers of shelf_repack
+ * its sizes. The rows of shelf_check_plan are only read and may overlap.
  */
 #ifndef SHELF_H
 #define SHELF_H
@@ -30,7 +30,7 @@
  * a row, a result or a refusal is added or changes. Header and libshelf.a must
  * be of one version: nothing checks it.
  */
-#define SHELF_VERSION 7
+#define SHELF_VERSION 8
 
 /*
  * Limits. Capacity, stock and sizes are at least 1; the trailer, and what is
@@ -42,7 +42,7 @@
 #define SHELF_MAX_M 9
 #define SHELF_MAX_TRAILER 65535      /* units; it may be above the capacity */
 #define SHELF_MAX_COMMANDS 4096      /* after the opening */
-#define SHELF_MAX_ENTRIES 4096       /* of a plan; its masters; its k */
+#define SHELF_MAX_ENTRIES 4096       /* of a plan; its masters; its k; a row */
 #define SHELF_MAX_SHEET_STREAM 32768 /* bytes of a stream with a sheet */
 
 /* The most bytes of a sheet: 512 cartridge lines and 12 page lines of 41. */
@@ -62,7 +62,7 @@ enum {
     SHELF_REFUSAL_SIZE_ZERO = 8,
     SHELF_REFUSAL_SIZE_ABOVE_CAPACITY = 9,
     SHELF_REFUSAL_STOCK_SPENT = 10,
-    /* Of a plan. */
+    /* Of a plan; 11 to 13 also of a row of sizes. */
     SHELF_REFUSAL_CAPACITY_OUTSIDE_LIMITS = 11,
     SHELF_REFUSAL_ABOVE_LIMIT = 12,
     SHELF_REFUSAL_ENTRY_SIZE = 13,
@@ -77,7 +77,9 @@ enum {
     SHELF_REFUSAL_RANGE_WRONG = 19,
     /* Of a settling. */
     SHELF_REFUSAL_NOT_RESERVED = 20,
-    SHELF_REFUSAL_OUTSIDE_RANGE = 21
+    SHELF_REFUSAL_OUTSIDE_RANGE = 21,
+    /* Of a row of sizes. */
+    SHELF_REFUSAL_TOO_FEW_ANSWERS = 22
 };
 
 #ifdef __cplusplus
@@ -276,15 +278,54 @@ uint64_t shelf_check_plan(const uint32_t *sizes, size_t sizes_len,
                           const uint32_t *items, size_t items_len,
                           uint32_t capacity, uint32_t k);
 
+/*
+ * Repacks a row of sizes, those of a closed shelf or any others, by
+ * First-Fit-Decreasing: the largest is placed first, equal ones in the order of the
+ * row, each in the lowest-numbered cartridge where it still fits, and in a new one
+ * if there is none. All cartridges are of one class, and they are fresh ones,
+ * numbered from 1.
+ *
+ * sizes        sizes_len sizes, only read. They are taken as they are given: those of
+ *              a shelf's own masters must be stored sizes, as settled, or the
+ *              greatest till then, and each production is repacked by itself.
+ * answers      answers_len words.
+ * capacity     of a cartridge.
+ * old          the cartridges that the masters lie on now, emptied ones too; it has
+ *              no limit, and makes no difference to the answers.
+ *
+ * If the row is accepted, the result is the number of cartridges of the plan, at most
+ * 4096, plus 2^32 if the move saves nothing (bit 63 is 0). It saves nothing exactly
+ * if that number is not below old. answers[i] is the cartridge of sizes[i], in the
+ * order of the row; each number from 1 to that of the cartridges is answered to some
+ * size. Words past the last answer are untouched.
+ *
+ * The sizes and their answers are a plan that shelf_check_plan passes, with k that
+ * number of cartridges. And twice that number is at most three times the cartridges
+ * of any plan of these sizes that passes, with nothing added.
+ *
+ * If the row is refused, the result is
+ *     2^63 + number * 2^32 + place
+ * and every word of answers is untouched. It is the first of these:
+ *     number  place                     condition
+ *     11      0                         capacity outside its limits
+ *     12      0                         sizes_len above 4096
+ *     13      of the first such size,   a size is 0 or above the capacity
+ *             from 1
+ *     22      0                         answers_len is below sizes_len
+ */
+uint64_t shelf_repack(const uint32_t *sizes, size_t sizes_len,
+                      uint16_t *answers, size_t answers_len,
+                      uint32_t capacity, uint32_t old);
+
 #ifdef __cplusplus
 }
 #endif
 
 /*
- * Reading a result of shelf_stream or shelf_check_plan.
+ * Reading a result of shelf_stream, shelf_check_plan or shelf_repack.
  */
 
-/* Whether the stream or the plan is refused. */
+/* Whether the stream, the plan or the row is refused. */
 static inline int shelf_is_refused(uint64_t result)
 {
     return (result >> 63) != 0;
@@ -296,7 +337,7 @@ static inline uint32_t shelf_refusal(uint64_t result)
     return shelf_is_refused(result) ? (result >> 32) & 0x7fffffffu : 0;
 }
 
-/* Of a refused stream the offset, of a refused plan the place. */
+/* Of a refused stream the offset, of a refused plan or row the place. */
 static inline uint32_t shelf_place(uint64_t result)
 {
     return result & 0xffffffffu;
@@ -318,6 +359,18 @@ static inline uint32_t shelf_opened(uint64_t result)
 static inline uint32_t shelf_looks(uint64_t result)
 {
     return (result >> 32) & 0x7fffffffu;
+}
+
+/* Of a repacked row the cartridges of its plan. */
+static inline uint32_t shelf_count(uint64_t result)
+{
+    return result & 0xffffffffu;
+}
+
+/* Of a repacked row whether these are not fewer than the old ones. */
+static inline int shelf_saves_nothing(uint64_t result)
+{
+    return ((result >> 32) & 1) != 0;
 }
 
 /*
@@ -395,9 +448,9 @@ static inline const char *shelf_refusal_name(uint32_t number)
     case SHELF_REFUSAL_CAPACITY_OUTSIDE_LIMITS:
         return "capacity outside its limits";
     case SHELF_REFUSAL_ABOVE_LIMIT:
-        return "k, the plan or the list of masters above 4096";
+        return "more than 4096 entries, masters or cartridges";
     case SHELF_REFUSAL_ENTRY_SIZE:
-        return "the entry's size is 0 or above the capacity";
+        return "the size is 0 or above the capacity";
     case SHELF_REFUSAL_ENTRY_BIN:
         return "the entry's cartridge is 0 or above k";
     case SHELF_REFUSAL_OVERFULL:
@@ -414,6 +467,8 @@ static inline const char *shelf_refusal_name(uint32_t number)
         return "no master of that number waits to be settled";
     case SHELF_REFUSAL_OUTSIDE_RANGE:
         return "the size is outside the master's range";
+    case SHELF_REFUSAL_TOO_FEW_ANSWERS:
+        return "fewer answer words than sizes";
     default:
         return "no refusal has this number";
     }

@@ -1,7 +1,7 @@
 /* A panel's round: know how far a search can go, open a shelf for masters with
  * trailers, shelve those of two productions, take a master out again, keep a place
  * for one that is not finished and settle its size, read the answers, print the
- * vault sheet, check plans. */
+ * vault sheet, check plans, repack what remains. */
 
 #include <inttypes.h>
 #include <stdio.h>
@@ -40,6 +40,9 @@ static size_t length;
 /* Of a production's master, by its command: the stored size, 0 where none is
  * shelved, and the cartridge. */
 static uint32_t stored[2][COMMANDS], cartridge[2][COMMANDS];
+
+/* The cartridges that a production has opened, emptied ones too. */
+static uint32_t opened[2];
 
 /* Appends a number of so many bytes, most significant first. */
 static void put(uint32_t number, int bytes)
@@ -105,6 +108,27 @@ static void keep(int production, size_t i, uint32_t size, uint16_t answer)
 {
     stored[production][i] = size + TRAILER;
     cartridge[production][i] = answer;
+    if (answer > opened[production])
+        opened[production] = answer;
+}
+
+/* A production's masters still shelved, in the order of their commands, with their
+ * cartridges and the highest of these; how many there are. */
+static size_t still_shelved(int production, uint32_t *sizes, uint32_t *bins,
+                            uint32_t *highest)
+{
+    size_t entries = 0, i;
+
+    *highest = 0;
+    for (i = 0; i < COMMANDS; i++)
+        if (stored[production][i] > 0) {
+            sizes[entries] = stored[production][i];
+            bins[entries] = cartridge[production][i];
+            if (bins[entries] > *highest)
+                *highest = bins[entries];
+            entries++;
+        }
+    return entries;
 }
 
 /* Checks a plan of just these masters, in cartridges up to the highest, with the
@@ -112,18 +136,10 @@ static void keep(int production, size_t i, uint32_t size, uint16_t answer)
 static void report(const char *name, int production, uint32_t moved)
 {
     uint32_t sizes[COMMANDS], bins[COMMANDS];
-    uint32_t k = 0, refusal;
-    size_t entries = 0, i;
+    uint32_t k, refusal;
+    size_t entries = still_shelved(production, sizes, bins, &k);
     uint64_t result;
 
-    for (i = 0; i < COMMANDS; i++)
-        if (stored[production][i] > 0) {
-            sizes[entries] = stored[production][i];
-            bins[entries] = cartridge[production][i];
-            if (bins[entries] > k)
-                k = bins[entries];
-            entries++;
-        }
     if (moved > 0)
         bins[1] = moved;
     result = shelf_check_plan(sizes, entries, bins, entries, sizes, entries,
@@ -134,6 +150,28 @@ static void report(const char *name, int production, uint32_t moved)
     else
         printf("%s: refusal %" PRIu32 " at place %" PRIu32 ": %s\n", name, refusal,
                shelf_place(result), shelf_refusal_name(refusal));
+}
+
+/* Says where the masters of a production go at the season's end. */
+static void repack(int production)
+{
+    uint32_t sizes[COMMANDS], bins[COMMANDS], highest;
+    uint32_t old = opened[production];
+    uint16_t fresh[COMMANDS];
+    size_t entries = still_shelved(production, sizes, bins, &highest), i;
+    uint64_t result = shelf_repack(sizes, entries, fresh, COMMANDS, CAPACITY, old);
+
+    if (shelf_is_refused(result)) {
+        printf("refusal %" PRIu32 " at place %" PRIu32 ": %s\n", shelf_refusal(result),
+               shelf_place(result), shelf_refusal_name(shelf_refusal(result)));
+        return;
+    }
+    printf("production %d repacked:", production);
+    for (i = 0; i < entries; i++)
+        printf(" %" PRIu32 " on %" PRIu16 ",", sizes[i], fresh[i]);
+    printf(" %" PRIu32 " cartridges before, %" PRIu32 " after%s\n", old,
+           shelf_count(result),
+           shelf_saves_nothing(result) ? ": the move saves nothing" : "");
 }
 
 int main(void)
@@ -203,5 +241,8 @@ int main(void)
 
     /* Moving the first 21 beside the 34 and another 21 overfills cartridge 1. */
     report("a crowded plan", 0, 1);
+
+    repack(0);
+    repack(1);
     return 0;
 }

@@ -6,8 +6,8 @@
 #include "shelf.h"
 #include "shelf.h"
 
-#if SHELF_VERSION != 7
-#error "these are the checks of version 7"
+#if SHELF_VERSION != 8
+#error "these are the checks of version 8"
 #endif
 
 #if SHELF_MIN_M > SHELF_MAX_M || SHELF_MAX_CAPACITY < SHELF_MAX_SHEET_STREAM
@@ -28,6 +28,10 @@ int check_header(void)
     const uint64_t no_words = 0x800000070000900au;
     const uint64_t no_production = 0x8000001200000008u;
     const uint64_t last_plan = 0x80000010ffffffffu;
+    const uint64_t repacked = 0x0000000000001000u;
+    const uint64_t saves_nothing = 0x0000000100001000u;
+    const uint64_t last_size = 0x8000000d00001000u;
+    const uint64_t no_answers = 0x8000001600000000u;
     static const uint16_t figures[] = {0, 1, SHELF_MAX_STOCK, 0x7fff};
     static const uint32_t stocks[] = {1, 2, 4, 8, 16, 32, 64, 128, 256, 512};
     uint32_t number, other;
@@ -73,6 +77,16 @@ int check_header(void)
     CHECK(shelf_refusal(last_plan) == SHELF_REFUSAL_OTHER_ITEMS);
     CHECK(shelf_place(last_plan) == 0xffffffff);
 
+    CHECK(!shelf_is_refused(repacked) && !shelf_is_refused(saves_nothing));
+    CHECK(shelf_count(repacked) == SHELF_MAX_ENTRIES);
+    CHECK(shelf_count(saves_nothing) == SHELF_MAX_ENTRIES);
+    CHECK(!shelf_saves_nothing(repacked) && shelf_saves_nothing(saves_nothing));
+    CHECK(shelf_count(0) == 0 && !shelf_saves_nothing(0));
+    CHECK(shelf_refusal(last_size) == SHELF_REFUSAL_ENTRY_SIZE);
+    CHECK(shelf_place(last_size) == SHELF_MAX_ENTRIES);
+    CHECK(shelf_refusal(no_answers) == SHELF_REFUSAL_TOO_FEW_ANSWERS);
+    CHECK(shelf_place(no_answers) == 0);
+
     for (i = 0; i < sizeof figures / sizeof *figures; i++) {
         CHECK(!shelf_answer_is_refused(figures[i]));
         CHECK(shelf_answer_refusal(figures[i]) == 0);
@@ -86,12 +100,12 @@ int check_header(void)
     CHECK(shelf_answer_refusal(32788) == SHELF_REFUSAL_NOT_RESERVED);
     CHECK(shelf_answer_refusal(32789) == SHELF_REFUSAL_OUTSIDE_RANGE);
 
-    /* Twenty-one names, no two alike, and one for all other numbers. */
-    for (number = 0; number <= SHELF_REFUSAL_OUTSIDE_RANGE; number++)
+    /* Twenty-two names, no two alike, and one for all other numbers. */
+    for (number = 0; number <= SHELF_REFUSAL_TOO_FEW_ANSWERS; number++)
         for (other = 0; other < number; other++)
             CHECK(strcmp(shelf_refusal_name(number),
                          shelf_refusal_name(other)) != 0);
-    CHECK(strcmp(shelf_refusal_name(22), shelf_refusal_name(0)) == 0);
+    CHECK(strcmp(shelf_refusal_name(23), shelf_refusal_name(0)) == 0);
     CHECK(strcmp(shelf_refusal_name(0xffffffff), shelf_refusal_name(0)) == 0);
     return 0;
 }

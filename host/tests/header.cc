@@ -50,6 +50,13 @@ uint64_t check_plan(const std::vector<uint32_t> &sizes, uint32_t bin)
                             sizes.data(), sizes.size(), 60, 1);
 }
 
+uint64_t repack(const std::vector<uint32_t> &sizes, std::vector<uint16_t> &answers,
+                uint32_t old)
+{
+    return shelf_repack(sizes.data(), sizes.size(), answers.data(), answers.size(), 60,
+                        old);
+}
+
 std::string in_words(uint32_t (*number)(uint64_t), uint64_t result)
 {
     return shelf_refusal_name(number(result));
@@ -114,6 +121,19 @@ int check_header()
     CHECK(shelf_refusal(result) == SHELF_REFUSAL_OVERFULL);
     CHECK(shelf_place(result) == 3);
     CHECK(shelf_refusal(check_plan({30}, 2)) == SHELF_REFUSAL_ENTRY_BIN);
+
+    std::vector<uint16_t> fresh(5, 7);
+    result = repack({20, 35, 40, 25}, fresh, 3);
+    CHECK(shelf_count(result) == 2 && !shelf_saves_nothing(result));
+    CHECK(fresh == std::vector<uint16_t>({1, 2, 1, 2, 7}));
+    CHECK(shelf_saves_nothing(repack({20, 35, 40, 25}, fresh, 2)));
+    result = repack({20, 61, 0, 1, 1, 1}, fresh, 2);
+    CHECK(shelf_refusal(result) == SHELF_REFUSAL_ENTRY_SIZE);
+    CHECK(shelf_place(result) == 2);
+    result = repack({20, 20, 20, 1, 1, 1}, fresh, 2);
+    CHECK(shelf_refusal(result) == SHELF_REFUSAL_TOO_FEW_ANSWERS);
+    CHECK(in_words(shelf_refusal, result) == "fewer answer words than sizes");
+    CHECK(fresh == std::vector<uint16_t>({1, 2, 1, 2, 7}));
 
     std::vector<uint8_t> sheet(SHELF_SHEET_BYTES);
     CHECK(shelf_sheet(stream.data(), stream.size(), sheet.data()) == 2 * 41);

@@ -4,7 +4,7 @@ use shelf::{Production, StreamBuilder, MAX_COMMANDS, MAX_STOCK};
 
 use crate::scan::Scan;
 
-const CAPACITY: u32 = 1_000_000;
+pub const CAPACITY: u32 = 1_000_000;
 const M: u8 = 6;
 /// The trailer of the mix that has one.
 const TRAILER: u16 = 10_000;
@@ -137,7 +137,7 @@ fn of_every_class(numbers: &mut Numbers) -> u32 {
 impl Mix {
     /// The stream of this number, the same in every run.
     pub fn stream(&self, seed: u64) -> StreamBuilder {
-        let mut numbers = Numbers(seed);
+        let mut numbers = Numbers::new(seed);
         let mut making = match self.besides {
             Besides::Trailer => Making::with_trailer(TRAILER),
             _ => Making::new(),
@@ -280,10 +280,14 @@ impl Making {
 }
 
 /// A linear congruential generator of 64 bits, read from the top.
-struct Numbers(u64);
+pub struct Numbers(u64);
 
 impl Numbers {
-    fn between(&mut self, least: u32, most: u32) -> u32 {
+    pub fn new(seed: u64) -> Self {
+        Self(seed)
+    }
+
+    pub fn between(&mut self, least: u32, most: u32) -> u32 {
         self.0 = self
             .0
             .wrapping_mul(6_364_136_223_846_793_005)

@@ -1,7 +1,7 @@
 //! A panel's round: know how far a search can go, open a shelf for masters with
 //! trailers, shelve those of two productions, take a master out again, keep a place
 //! for one that is not finished and settle its size, read the answers, print the
-//! vault sheet, check plans.
+//! vault sheet, check plans, repack what remains.
 
 use shelf::Production::{First, Second};
 use shelf::{Answer, Command, Entry, Items, Opening, Production, StreamBuilder, Totals};
@@ -68,6 +68,29 @@ fn main() {
     // Moving the first 21 beside the 34 and another 21 overfills cartridge 1.
     plans[0][1].bin = 1;
     report("a crowded plan", &plans[0]);
+
+    for production in Production::BOTH {
+        let sizes = items.stored_sizes(&opening, production);
+        repack(production, &sizes, items.opened(production).into());
+    }
+}
+
+/// Says where the masters of a production go at the season's end.
+fn repack(production: Production, sizes: &[u32], old: u32) {
+    let mut fresh = vec![0; sizes.len()];
+    let repacked = match shelf::repack(sizes, &mut fresh, CAPACITY, old) {
+        Ok(repacked) => repacked,
+        Err(refusal) => return println!("{refusal}"),
+    };
+    print!("production {} repacked:", production.number());
+    for (size, bin) in sizes.iter().zip(&fresh) {
+        print!(" {size} on {bin},");
+    }
+    let count = repacked.count;
+    match repacked.saves_nothing {
+        true => println!(" {old} cartridges before, {count} after: the move saves nothing"),
+        false => println!(" {old} cartridges before, {count} after"),
+    }
 }
 
 /// Checks a plan of just these masters, in cartridges up to the highest.

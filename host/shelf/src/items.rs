@@ -20,6 +20,14 @@ pub struct Item {
     pub least: Option<u32>,
 }
 
+impl Item {
+    /// What it takes up, the trailer included. An item on the shelf is no larger than
+    /// the capacity.
+    fn stored(&self, opening: &Opening) -> u32 {
+        opening.stored(self.size).try_into().unwrap_or(u32::MAX)
+    }
+}
+
 /// The items still shelved, told by one answer after another: those accepted and
 /// not taken out, each with the size that counts.
 ///
@@ -38,9 +46,14 @@ pub struct Item {
 /// // They are a plan of their own.
 /// let opening = Opening::read(stream.bytes()).expect("it was accepted");
 /// let plan = items.plan(&opening, Production::First);
-/// let sizes: Vec<u32> = plan.iter().map(|entry| entry.size).collect();
+/// let sizes = items.stored_sizes(&opening, Production::First);
 /// let k = items.opened(Production::First).into();
 /// assert!(shelf::check_plan(&plan, &sizes, opening.capacity, k).is_ok());
+///
+/// // And they can be repacked: 31 and 21 go into one bin.
+/// let mut answers = vec![0; sizes.len()];
+/// let repacked = shelf::repack(&sizes, &mut answers, opening.capacity, k).unwrap();
+/// assert_eq!((&answers[..], repacked.count, repacked.saves_nothing), (&[1, 1][..], 1, false));
 /// ```
 #[derive(Debug, Clone, PartialEq, Eq, Default)]
 pub struct Items {
@@ -108,7 +121,8 @@ impl Items {
         self.shelved.values()
     }
 
-    /// How many bins a production has opened, emptied or not: the `k` of its plan.
+    /// How many bins a production has opened, emptied or not: the `k` of its plan,
+    /// and the old count when it is repacked.
     pub fn opened(&self, production: Production) -> u16 {
         self.opened[usize::from(production.number())]
     }
@@ -116,12 +130,24 @@ impl Items {
     /// The plan that a production's items are, by their stored sizes. Of an
     /// accepted stream it always passes.
     pub fn plan(&self, opening: &Opening, production: Production) -> Vec<Entry> {
-        let own = self.iter().filter(|item| item.production == production);
         let entry = |item: &Item| Entry {
-            // An item on the shelf is no larger than the capacity.
-            size: opening.stored(item.size).try_into().unwrap_or(u32::MAX),
+            size: item.stored(opening),
             bin: item.bin.into(),
         };
-        own.map(entry).collect()
+        self.of(production).map(entry).collect()
+    }
+
+    /// The stored sizes of a production's items, in the order of their commands: what
+    /// its plan is checked against, and the row to [repack](crate::repack) it by. Of
+    /// an accepted stream it is never refused.
+    pub fn stored_sizes(&self, opening: &Opening, production: Production) -> Vec<u32> {
+        let own = self.of(production);
+        own.map(|item| item.stored(opening)).collect()
+    }
+
+    /// Those of a production, in the order of their commands.
+    pub fn of(&self, production: Production) -> impl Iterator<Item = &Item> + '_ {
+        self.iter()
+            .filter(move |item| item.production == production)
     }
 }

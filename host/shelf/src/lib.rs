@@ -1,5 +1,6 @@
 //! Safe calls into the proved shelving library: Refined First-Fit over a
-//! command stream, the vault sheet of a stream, and the plan checker.
+//! command stream, the vault sheet of a stream, the plan checker, and
+//! First-Fit-Decreasing for a closed shelf.
 //!
 //! Build a stream, lend it with two rows of words, read the answers:
 //!
@@ -27,7 +28,7 @@
 //!
 //! The number of a bin is its place in the order of opening, from 1. A bin that
 //! is emptied stays opened and is chosen again like any other of its class.
-//! Refusals keep the numbers 1 to 21 of the specification; `number` gives them.
+//! Refusals keep the numbers 1 to 22 of the specification; `number` gives them.
 //!
 //! Where a trailer is written after each item, the opening has its length
 //! ([`StreamBuilder::open_with_trailer`]). An item then takes up its stored size
@@ -43,6 +44,9 @@
 //! [`StreamBuilder::switch`] makes the commands after it belong to either. Each
 //! [`Production`] has bins of its own, numbered from 1; the stock is spent once
 //! both together have opened it all.
+//!
+//! What is still shelved when a shelf is closed can be copied onto fresh bins, often
+//! fewer of them: [`repack`] says which item goes to which.
 
 mod items;
 mod production;
@@ -53,7 +57,8 @@ mod stream;
 
 pub use items::{Item, Items};
 pub use production::Production;
-pub use refusals::{CommandRefusal, PlanFault, PlanRefusal, StreamFault, StreamRefusal};
+pub use refusals::{CommandRefusal, PlanFault, PlanRefusal};
+pub use refusals::{RowFault, RowRefusal, StreamFault, StreamRefusal};
 pub use sheet::{Row, Sheet};
 pub use stream::{answers, commands, productions};
 pub use stream::{Answer, Answers, Command, Commands, Opening, StreamBuilder};
@@ -70,8 +75,8 @@ pub const MAX_M: u8 = 9;
 pub const MAX_TRAILER: u16 = 65_535;
 /// The most commands that may follow the opening.
 pub const MAX_COMMANDS: usize = 4_096;
-/// The most entries of a plan, the most items it is checked against, and the
-/// largest `k`.
+/// The most entries of a plan, the most items it is checked against, the largest
+/// `k`, and the most sizes of a row that is repacked.
 pub const MAX_ENTRIES: usize = 4_096;
 /// The longest stream that a sheet is made of, in bytes.
 pub const MAX_SHEET_STREAM: usize = 32_768;
@@ -139,6 +144,15 @@ mod ffi {
             capacity: u32,
             k: u32,
         ) -> u64;
+
+        pub fn shelf_repack(
+            sizes: *const u32,
+            sizes_len: usize,
+            answers: *mut u16,
+            answers_len: usize,
+            capacity: u32,
+            old: u32,
+        ) -> u64;
     }
 }
 
@@ -169,6 +183,15 @@ pub struct Totals {
     /// assert_eq!(totals.looks, shelf::most_looks(4));
     /// ```
     pub looks: u8,
+}
+
+/// What a row of sizes is repacked into.
+#[derive(Debug, Clone, Copy, PartialEq, Eq)]
+pub struct Repacked {
+    /// The bins of the plan, which are numbered from 1 to this; all of them are used.
+    pub count: u16,
+    /// Whether these are not fewer than the old ones.
+    pub saves_nothing: bool,
 }
 
 /// One entry of a plan: an item of `size` units lies in bin number `bin`.
@@ -347,6 +370,64 @@ pub fn check_plan_rows(
     }
 }
 
+/// Repacks a row of sizes into fresh bins of the given capacity by
+/// First-Fit-Decreasing: the largest is placed first, equal ones in the order of the
+/// row, each in the lowest-numbered bin where it still fits, and in a new one if
+/// there is none. All bins are of one class.
+///
+/// `answers[i]` is then the bin of `sizes[i]`, from 1; words past the last answer are
+/// untouched. `old` is how many bins the items lie in now: it has no limit, and only
+/// tells whether the move saves nothing, which is so exactly if the new count is not
+/// below it. A refused row leaves every word of `answers` untouched.
+///
+/// The sizes and their answers are a plan that [`check_plan`] passes, with `k` the
+/// count. Twice the count is at most three times the bins of any plan of these sizes
+/// that passes, with nothing added.
+///
+/// Sizes are taken as they are given: those of a shelf's own items must be stored
+/// sizes, and each production is repacked by itself ([`Items::stored_sizes`]).
+///
+/// ```
+/// use shelf::{Repacked, RowFault};
+///
+/// let mut answers = [7; 5];
+/// let repacked = shelf::repack(&[20, 35, 40, 25], &mut answers, 60, 4);
+/// assert_eq!(repacked, Ok(Repacked { count: 2, saves_nothing: false }));
+/// assert_eq!(answers, [1, 2, 1, 2, 7]); // 40 and 20, 35 and 25
+///
+/// // The answers are the same, whatever the old count.
+/// let repacked = shelf::repack(&[20, 35, 40, 25], &mut answers, 60, 2);
+/// assert_eq!(repacked, Ok(Repacked { count: 2, saves_nothing: true }));
+///
+/// let refusal = shelf::repack(&[20, 61], &mut answers, 60, 2).unwrap_err();
+/// assert_eq!(refusal.fault, RowFault::SizeOutsideLimits);
+/// assert_eq!((refusal.fault.number(), refusal.place), (13, 2));
+/// ```
+pub fn repack(
+    sizes: &[u32],
+    answers: &mut [u16],
+    capacity: u32,
+    old: u32,
+) -> Result<Repacked, RowRefusal> {
+    // SAFETY: each pointer comes with the length of the slice it was taken
+    // from; the answers are borrowed mutably, so they overlap nothing; the library
+    // keeps neither the pointers nor any state after the call.
+    let code = unsafe {
+        ffi::shelf_repack(
+            sizes.as_ptr(),
+            sizes.len(),
+            answers.as_mut_ptr(),
+            answers.len(),
+            capacity,
+            old,
+        )
+    };
+    match results::of_repack(code) {
+        Some(result) => result,
+        None => panic!("shelf_repack returned {code:#x}, which its interface excludes"),
+    }
+}
+
 #[cfg(test)]
 mod tests {
     use super::*;
@@ -361,8 +442,15 @@ mod tests {
         };
         assert_eq!(shelve(&opening, &mut [], &mut []), Ok(none));
         assert_eq!(check_plan(&[], &[], 1, 0), Ok(()));
+        let none = Repacked {
+            count: 0,
+            saves_nothing: true,
+        };
+        assert_eq!(repack(&[], &mut [], 1, 0), Ok(none));
         let refusal = shelve(&[], &mut [], &mut []).unwrap_err();
         assert_eq!((refusal.fault.number(), refusal.offset), (1, 0));
+        let refusal = repack(&[], &mut [], 0, 0).unwrap_err();
+        assert_eq!((refusal.fault.number(), refusal.place), (11, 0));
     }
 
     #[test]
@@ -409,19 +497,21 @@ mod tests {
 
     #[test]
     fn numbers_and_faults_go_both_ways() {
-        for number in 0..=23 {
+        for number in 0..=24 {
             let found = [
                 StreamFault::from_number(number).map(StreamFault::number),
                 CommandRefusal::from_number(number).map(CommandRefusal::number),
                 PlanFault::from_number(number).map(PlanFault::number),
+                RowFault::from_number(number).map(RowFault::number),
             ];
             let known: Vec<u32> = found.into_iter().flatten().collect();
-            let expected: &[u32] = if (1..=21).contains(&number) {
-                &[number]
-            } else {
-                &[]
+            let times = match number {
+                // Of a plan, and of a row of sizes.
+                11..=13 => 2,
+                1..=22 => 1,
+                _ => 0,
             };
-            assert_eq!(known, expected);
+            assert_eq!(known, vec![number; times]);
         }
     }
 }

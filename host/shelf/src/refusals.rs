@@ -71,11 +71,21 @@ refusals! {
     /// What is wrong with a plan.
     PlanFault {
         CapacityOutsideLimits = 11 "capacity outside its limits"
-        AboveLimit = 12 "k, the plan or the list of masters above 4096"
-        EntrySize = 13 "the entry's size is 0 or above the capacity"
+        AboveLimit = 12 "more than 4096 entries, masters or cartridges"
+        EntrySize = 13 "the size is 0 or above the capacity"
         EntryBin = 14 "the entry's cartridge is 0 or above k"
         Overfull = 15 "with this entry its cartridge exceeds the capacity"
         OtherItems = 16 "the plan is not of these masters"
+    }
+}
+
+refusals! {
+    /// What is wrong with a row of sizes, or with the row of answers lent beside it.
+    RowFault {
+        CapacityOutsideLimits = 11 "capacity outside its limits"
+        AboveLimit = 12 "more than 4096 entries, masters or cartridges"
+        SizeOutsideLimits = 13 "the size is 0 or above the capacity"
+        TooFewWords = 22 "fewer answer words than sizes"
     }
 }
 
@@ -116,3 +126,22 @@ impl fmt::Display for PlanRefusal {
 }
 
 impl Error for PlanRefusal {}
+
+/// A refused row of sizes. Nothing was written.
+#[derive(Debug, Clone, Copy, PartialEq, Eq)]
+pub struct RowRefusal {
+    /// What is wrong.
+    pub fault: RowFault,
+    /// The place of the first size outside its limits, from 1; 0 for faults of no
+    /// single size.
+    pub place: usize,
+}
+
+impl fmt::Display for RowRefusal {
+    fn fmt(&self, f: &mut fmt::Formatter<'_>) -> fmt::Result {
+        let Self { fault, place } = self;
+        write!(f, "refusal {} at place {place}: {fault}", fault.number())
+    }
+}
+
+impl Error for RowRefusal {}

@@ -1,6 +1,7 @@
 //! What a call returns: one number of 64 bits, read by the rules of shelf.h.
 
-use crate::{PlanFault, PlanRefusal, StreamFault, StreamRefusal, Totals};
+use crate::{PlanFault, PlanRefusal, Repacked, RowFault, RowRefusal};
+use crate::{StreamFault, StreamRefusal, Totals};
 
 /// Set in the number of whatever is refused, clear in every other.
 const REFUSED: u64 = 1 << 63;
@@ -32,6 +33,21 @@ pub fn of_plan(code: u64) -> Option<Result<(), PlanRefusal>> {
         return Some(Err(PlanRefusal { fault, place }));
     }
     (code == 0).then_some(Ok(()))
+}
+
+/// Set in the number of a row that is repacked and saves nothing.
+const SAVES_NOTHING: u64 = 1 << 32;
+
+/// What `shelf_repack` returned. `None` if the interface excludes the number.
+pub fn of_repack(code: u64) -> Option<Result<Repacked, RowRefusal>> {
+    if let Some((number, place)) = refusal(code) {
+        let fault = RowFault::from_number(number)?;
+        return Some(Err(RowRefusal { fault, place }));
+    }
+    Some(Ok(Repacked {
+        count: u16::try_from(code & !SAVES_NOTHING).ok()?,
+        saves_nothing: code & SAVES_NOTHING != 0,
+    }))
 }
 
 #[cfg(test)]
@@ -67,6 +83,25 @@ mod tests {
     }
 
     #[test]
+    fn bit_32_tells_what_saves_nothing() {
+        for (code, count, saves_nothing) in [
+            (0, 0, false),
+            (4096, 4096, false),
+            (1 << 32, 0, true),
+            (1 << 32 | 4096, 4096, true),
+        ] {
+            let repacked = Repacked {
+                count,
+                saves_nothing,
+            };
+            assert_eq!(of_repack(code), Some(Ok(repacked)));
+        }
+        let fault = RowFault::SizeOutsideLimits;
+        let refused = Some(Err(RowRefusal { fault, place: 4096 }));
+        assert_eq!(of_repack(REFUSED | 13 << 32 | 4096), refused);
+    }
+
+    #[test]
     fn excluded_numbers_are_no_result() {
         for code in [1 << 40, 0x101 << 32, REFUSED >> 1, REFUSED - 1, REFUSED] {
             assert_eq!(of_stream(code), None);
@@ -79,6 +114,12 @@ mod tests {
         }
         for number in [10, 17, 18, 19, 22] {
             assert_eq!(of_plan(REFUSED | number << 32), None);
+        }
+        for code in [1 << 16, 1 << 33, 3 << 32, REFUSED - 1, REFUSED] {
+            assert_eq!(of_repack(code), None);
+        }
+        for number in [7, 10, 14, 15, 16, 17, 21, 23] {
+            assert_eq!(of_repack(REFUSED | number << 32), None);
         }
     }
 }

@@ -23,6 +23,14 @@ impl Place {
             Self::File(name.into())
         }
     }
+
+    /// The format that its name tells.
+    pub fn format(&self) -> Option<Format> {
+        match self {
+            Self::Standard => None,
+            Self::File(file) => Format::of_name(file),
+        }
+    }
 }
 
 #[derive(Debug, PartialEq, Eq)]
@@ -31,6 +39,7 @@ pub enum Action {
     Version,
     Shelve(Shelve),
     Check(Place),
+    Repack(Repack),
     /// The list that does worst for `k` cartridges, or its plan.
     Worst {
         k: u32,
@@ -71,11 +80,24 @@ impl Shelve {
     }
 }
 
+/// How to repack a closed shelf, and what to show of it.
+#[derive(Debug, PartialEq, Eq)]
+pub struct Repack {
+    pub input: Place,
+    /// `None` leaves it to the input's name and content.
+    pub format: Option<Format>,
+    pub list: bool,
+    pub json: bool,
+}
+
 /// Reads the arguments after the program's name.
 pub fn parse(arguments: impl Iterator<Item = OsString>) -> Result<Action, String> {
     let mut arguments = arguments.peekable();
     if arguments.next_if(|first| first == "check").is_some() {
         return parse_check(arguments);
+    }
+    if arguments.next_if(|first| first == "repack").is_some() {
+        return parse_repack(arguments);
     }
     if arguments.next_if(|first| first == "worst").is_some() {
         return parse_worst(arguments);
@@ -95,9 +117,9 @@ pub fn parse(arguments: impl Iterator<Item = OsString>) -> Result<Action, String
         match argument.to_str() {
             Some("--help" | "-h") => return Ok(Action::Help),
             Some("--version") => return Ok(Action::Version),
-            Some("--text") => set_format(&mut shelve, Format::Text)?,
-            Some("--hex") => set_format(&mut shelve, Format::Hex)?,
-            Some("--raw") => set_format(&mut shelve, Format::Raw)?,
+            Some(option @ ("--text" | "--hex" | "--raw")) => {
+                set_format(&mut shelve.format, option)?;
+            }
             Some("--sheet") => shelve.sheet = true,
             Some("--draw") => shelve.draw = true,
             Some("--list") => shelve.list = true,
@@ -133,6 +155,32 @@ fn parse_check(mut arguments: impl Iterator<Item = OsString>) -> Result<Action, 
         }
     }
     only_file(files).map(Action::Check)
+}
+
+fn parse_repack(mut arguments: impl Iterator<Item = OsString>) -> Result<Action, String> {
+    let mut repack = Repack {
+        input: Place::Standard,
+        format: None,
+        list: false,
+        json: false,
+    };
+    let mut files = Vec::new();
+    while let Some(argument) = arguments.next() {
+        match argument.to_str() {
+            Some("--help" | "-h") => return Ok(Action::Help),
+            Some("--version") => return Ok(Action::Version),
+            Some(option @ ("--text" | "--hex" | "--raw")) => {
+                set_format(&mut repack.format, option)?;
+            }
+            Some("--list") => repack.list = true,
+            Some("--json") => repack.json = true,
+            Some("--") => files.extend(arguments.by_ref()),
+            _ if is_option(&argument) => return Err(no_option(&argument)),
+            _ => files.push(argument),
+        }
+    }
+    repack.input = only_file(files)?;
+    Ok(Action::Repack(repack))
 }
 
 fn parse_worst(arguments: impl Iterator<Item = OsString>) -> Result<Action, String> {
@@ -174,8 +222,13 @@ fn no_option(argument: &OsStr) -> String {
     format!("there is no option {}", argument.display())
 }
 
-fn set_format(shelve: &mut Shelve, format: Format) -> Result<(), String> {
-    match shelve.format.replace(format) {
+fn set_format(format: &mut Option<Format>, option: &str) -> Result<(), String> {
+    let given = match option {
+        "--text" => Format::Text,
+        "--hex" => Format::Hex,
+        _ => Format::Raw,
+    };
+    match format.replace(given) {
         Some(_) => Err("the format is given twice".to_string()),
         None => Ok(()),
     }
@@ -222,6 +275,13 @@ mod tests {
         }
     }
 
+    fn repack(line: &str) -> Repack {
+        match parsed(line) {
+            Ok(Action::Repack(repack)) => repack,
+            other => panic!("{line}: {other:?}"),
+        }
+    }
+
     fn file(name: &str) -> Place {
         Place::File(name.into())
     }
@@ -242,6 +302,12 @@ mod tests {
         assert_eq!(parsed("check p"), Ok(Action::Check(file("p"))));
         assert_eq!(parsed("check -- -p"), Ok(Action::Check(file("-p"))));
         assert_eq!(parsed("check"), Ok(Action::Check(Place::Standard)));
+        assert_eq!(repack("repack").input, Place::Standard);
+        assert_eq!(repack("repack --hex a").format, Some(Format::Hex));
+        assert_eq!(repack("repack -- --json").input, file("--json"));
+        assert!(repack("repack a --list").list && repack("repack --json a").json);
+        assert_eq!(shelve("--hex repack").input, file("repack"));
+        assert_eq!(parsed("repack --help"), Ok(Action::Help));
         assert_eq!(worst("worst 1"), (1, false));
         assert_eq!(worst("worst --plan 512"), (512, true));
         assert_eq!(worst("worst 512 --plan"), (512, true));
@@ -274,6 +340,10 @@ mod tests {
             "--hex --raw",
             "check a b",
             "check --draw a",
+            "repack a b",
+            "repack --draw a",
+            "repack --sheet a",
+            "repack --text --raw a",
             "worst",
             "worst 0",
             "worst 513",

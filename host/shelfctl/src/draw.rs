@@ -2,9 +2,7 @@
 
 use std::fmt::{self, Write};
 
-use shelf::Row;
-
-use crate::packing::{Packing, OF_BOTH};
+use crate::packing::{Bin, Packing, OF_BOTH};
 
 const COLUMNS: usize = 80;
 /// Columns before the bar, and those of the bar within its frame.
@@ -30,31 +28,61 @@ impl fmt::Display for Drawing<'_> {
         if packing.of_both() {
             writeln!(f, "{OF_BOTH}")?;
         }
-        let legend = [1, 2, 3, 4].map(|class| format!("{} class {class}", shade(class)));
+        let legend = [1, 2, 3, 4].map(|class| format!("{} class {class}", shade(Some(class))));
         writeln!(f, "\n   no class     load     free   {}", legend.join("  "))?;
-        for bin in &packing.bins {
-            let Row {
-                class, load, free, ..
-            } = bin.row;
-            let name = packing.name(bin);
-            let stored: Vec<u64> = bin.items.iter().map(|item| packing.stored(item)).collect();
-            let bar = bar(&stored, shade(class), packing.opening.capacity);
-            writeln!(f, "{name:>5}{class:>6}{load:>9}{free:>9} │{bar}│")?;
-            if !stored.is_empty() {
-                write_items(f, &stored)?;
-            }
+        let cartridge = |bin: &Bin| Cartridge {
+            name: packing.name(bin),
+            class: Some(bin.row.class),
+            load: bin.row.load.into(),
+            free: bin.row.free.into(),
+            stored: bin.items.iter().map(|item| packing.stored(item)).collect(),
+        };
+        let mut cartridges = packing.bins.iter().map(cartridge);
+        cartridges.try_for_each(|cartridge| cartridge.write(f, packing.opening.capacity))
+    }
+}
+
+/// The head of cartridges that have no class.
+pub const NO_CLASS: &str = "   no           load     free";
+
+/// A cartridge as it is drawn.
+pub struct Cartridge {
+    pub name: String,
+    /// Fresh ones have none.
+    pub class: Option<u8>,
+    pub load: u64,
+    pub free: u64,
+    /// The stored sizes of its masters.
+    pub stored: Vec<u64>,
+}
+
+impl Cartridge {
+    /// Its figures and its bar, and the sizes under that.
+    pub fn write(&self, f: &mut fmt::Formatter<'_>, capacity: u32) -> fmt::Result {
+        let Self {
+            name,
+            class,
+            load,
+            free,
+            stored,
+        } = self;
+        let bar = bar(stored, shade(*class), capacity);
+        let class = class.map_or(String::new(), |class| class.to_string());
+        writeln!(f, "{name:>5}{class:>6}{load:>9}{free:>9} │{bar}│")?;
+        if stored.is_empty() {
+            return Ok(());
         }
-        Ok(())
+        write_items(f, stored)
     }
 }
 
 /// The shade of a cartridge's masters, by the cartridge's class.
-fn shade(class: u8) -> char {
+fn shade(class: Option<u8>) -> char {
     match class {
-        1 => '█',
-        2 => '▓',
-        3 => '▒',
-        _ => '░',
+        None | Some(1) => '█',
+        Some(2) => '▓',
+        Some(3) => '▒',
+        Some(_) => '░',
     }
 }
 

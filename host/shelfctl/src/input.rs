@@ -30,22 +30,18 @@ impl Input {
         }
     }
 
-    /// The stream of this input, in the format given or else that of its
-    /// content.
-    pub fn stream(mut self, format: Option<Format>) -> Result<Source, Failure> {
+    /// The content of this input, in the format given or else its own.
+    pub fn content(mut self, format: Option<Format>) -> Result<Content, Failure> {
         let mut bytes = Vec::new();
         self.read_to(MAX_STREAM + 1, &mut bytes)?;
         let raw = format == Some(Format::Raw);
         if raw || (format.is_none() && !format::starts_text(&bytes)) {
-            return Ok(Source::raw(bytes));
+            let format = Format::Raw;
+            return Ok(Content { bytes, format });
         }
         self.text(&mut bytes)?;
-        match format.unwrap_or_else(|| Format::of_content(&bytes)) {
-            Format::Text => text::read_text(&bytes),
-            Format::Hex => text::read_hex(&bytes).map(Source::raw),
-            Format::Raw => Ok(Source::raw(bytes)),
-        }
-        .map_err(bad_text)
+        let format = format.unwrap_or_else(|| Format::of_content(&bytes));
+        Ok(Content { bytes, format })
     }
 
     /// The rest of a text, after the bytes already read.
@@ -64,6 +60,24 @@ impl Input {
             Ok(_) => Ok(()),
             Err(error) => Err(cannot_read(&self.name, &error)),
         }
+    }
+}
+
+/// All of an input that is needed, and the form that it has.
+pub struct Content {
+    pub bytes: Vec<u8>,
+    pub format: Format,
+}
+
+impl Content {
+    /// The stream that it is.
+    pub fn stream(self) -> Result<Source, Failure> {
+        match self.format {
+            Format::Text => text::read_text(&self.bytes),
+            Format::Hex => text::read_hex(&self.bytes).map(Source::raw),
+            Format::Raw => Ok(Source::raw(self.bytes)),
+        }
+        .map_err(bad_text)
     }
 }
 

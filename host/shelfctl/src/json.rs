@@ -6,6 +6,7 @@ use shelf::{Answer, Command, Opening, Row, Totals};
 
 use crate::outcome::{Answered, Outcome, Shelved};
 use crate::packing::Packing;
+use crate::repack::{Group, Repacking};
 use crate::source::MAX_STREAM;
 
 /// The object; `reasons` are the sentences about a stream refused.
@@ -21,6 +22,58 @@ pub fn object(outcome: &Outcome, reasons: &[String]) -> String {
         }
         Outcome::Shelved(shelved) => accepted(shelved),
     }
+}
+
+/// What a plan or list that is refused has in the place of its repacking.
+pub fn refused_at_place(number: u32, place: usize, reasons: &[String]) -> String {
+    refused(
+        &format!("\"number\": {number}, \"place\": {place}"),
+        reasons,
+    )
+}
+
+/// Where each master goes, group by group.
+pub fn repacked(repacking: &Repacking) -> String {
+    let capacity = repacking.capacity;
+    let counts = array(repacking.groups.iter().map(counts));
+    let moves = array(repacking.groups.iter().flat_map(moves));
+    format!(
+        "{{\n\"accepted\": true,\n\"capacity\": {capacity},\n\"repacked\": {counts},\n\
+         \"moves\": {moves}\n}}\n"
+    )
+}
+
+fn counts(group: &Group) -> String {
+    let (masters, before, after) = (group.moves.len(), group.old, group.new.count);
+    let saves_nothing = group.new.saves_nothing;
+    let production = production(group);
+    format!(
+        "{{{production}\"masters\": {masters}, \"before\": {before}, \"after\": {after}, \
+         \"saves_nothing\": {saves_nothing}}}"
+    )
+}
+
+fn moves(group: &Group) -> impl Iterator<Item = String> + '_ {
+    let named = match group.production {
+        Some(_) => "command",
+        None => "place",
+    };
+    group.moves.iter().map(move |to| {
+        let (production, number, stored) = (production(group), to.number, to.stored);
+        let from = to.from.map_or("null".to_string(), |bin| bin.to_string());
+        let to = to.to;
+        format!(
+            "{{{production}\"{named}\": {number}, \"stored\": {stored}, \"from\": {from}, \
+             \"to\": {to}}}"
+        )
+    })
+}
+
+/// Its production, if it has one.
+fn production(group: &Group) -> String {
+    group.production.map_or(String::new(), |production| {
+        format!("\"production\": {}, ", production.number())
+    })
 }
 
 fn refused(refusal: &str, reasons: &[String]) -> String {
@@ -199,6 +252,46 @@ mod tests {
         assert_eq!(answers.collect::<Vec<String>>(), expected);
         let cartridge = r#"{"production": 0, "number": 1, "class": 1, "load": 35, "free": 25, "held": 1, "commands": [1]}"#;
         assert_eq!(cartridges(&shelved.packing), format!("[\n{cartridge}\n]"));
+    }
+
+    #[test]
+    fn a_repacking_is_one_object() {
+        let mut stream = shelf::StreamBuilder::open_with_trailer(60, 3, 6, 2);
+        stream
+            .shelve(33)
+            .shelve(23)
+            .switch(Production::Second)
+            .shelve(58);
+        let shelved = Shelved::of(stream.bytes()).unwrap();
+        let expected = r#"{
+"accepted": true,
+"capacity": 60,
+"repacked": [
+{"production": 0, "masters": 2, "before": 2, "after": 1, "saves_nothing": false},
+{"production": 1, "masters": 1, "before": 1, "after": 1, "saves_nothing": true}
+],
+"moves": [
+{"production": 0, "command": 1, "stored": 35, "from": 1, "to": 1},
+{"production": 0, "command": 2, "stored": 25, "from": 2, "to": 1},
+{"production": 1, "command": 4, "stored": 60, "from": 1, "to": 1}
+]
+}
+"#;
+        assert_eq!(repacked(&Repacking::of_shelf(&shelved)), expected);
+        let plan = crate::plan::read_plan(b"plan 60 4\nmaster 35").unwrap();
+        let repacking = Repacking::of_plan(&plan).unwrap_or_else(|_| panic!("a good list"));
+        let expected = r#"{
+"accepted": true,
+"capacity": 60,
+"repacked": [
+{"masters": 1, "before": 4, "after": 1, "saves_nothing": false}
+],
+"moves": [
+{"place": 1, "stored": 35, "from": null, "to": 1}
+]
+}
+"#;
+        assert_eq!(repacked(&repacking), expected);
     }
 
     #[test]

@@ -1,5 +1,5 @@
 //! Shelves a stream, prints the answers, and draws the shelf; checks a plan;
-//! prints the lists that do worst.
+//! repacks a closed shelf; prints the lists that do worst.
 
 mod arguments;
 mod draw;
@@ -12,6 +12,7 @@ mod outcome;
 mod output;
 mod packing;
 mod plan;
+mod repack;
 mod source;
 mod svg;
 mod text;
@@ -20,12 +21,14 @@ mod worst;
 
 use std::process::ExitCode;
 
-use arguments::{Action, Place, Shelve};
+use arguments::{Action, Place, Repack, Shelve};
 use failure::Failure;
 use format::Format;
-use input::Input;
+use input::{Content, Input};
 use outcome::{Outcome, Shelved};
 use output::{print, tell};
+use plan::Plan;
+use repack::Repacking;
 use source::Source;
 use worst::Worst;
 
@@ -48,6 +51,7 @@ fn run() -> Result<u8, Failure> {
         }
         Action::Shelve(shelve) => shelve_input(&shelve),
         Action::Check(plan) => check_plan(&plan),
+        Action::Repack(repack) => repack_input(&repack),
         Action::Worst { k, plan: false } => print(&Worst::of(k).commands()).map(|()| ACCEPTED),
         Action::Worst { k, plan: true } => print(&Worst::of(k).plan()).map(|()| ACCEPTED),
     }
@@ -59,11 +63,8 @@ fn shelve_input(shelve: &Shelve) -> Result<u8, Failure> {
     if let Some(Place::File(picture)) = &shelve.svg {
         output::may_draw(picture, &input.file, shelve.force)?;
     }
-    let named = match &shelve.input {
-        Place::Standard => None,
-        Place::File(file) => Format::of_name(file),
-    };
-    let source = input.stream(shelve.format.or(named))?;
+    let content = input.content(shelve.format.or(shelve.input.format()))?;
+    let source = content.stream()?;
     let outcome = Outcome::of(&source);
     let sentences = outcome.sentences(&source);
     // The words come last, where people see them, but come whatever is written.
@@ -121,12 +122,89 @@ fn check_plan(place: &Place) -> Result<u8, Failure> {
     match plan.check() {
         Ok(()) => print("passed\n").map(|()| ACCEPTED),
         Err(refusal) => {
-            let number = refusal.fault.number();
-            let printed = print(&format!("refused {number} {}\n", refusal.place));
-            plan.sentences(refusal)
-                .iter()
-                .for_each(|sentence| tell(sentence));
-            printed.map(|()| REFUSED)
+            let line = refused(refusal.fault.number(), refusal.place);
+            print_refused(&line, &plan.sentences(refusal))
         }
     }
+}
+
+/// The line of a plan or list that is refused.
+fn refused(number: u32, place: usize) -> String {
+    format!("refused {number} {place}\n")
+}
+
+/// Prints what is to be printed of something refused, and says why it was.
+fn print_refused(output: &str, sentences: &[String]) -> Result<u8, Failure> {
+    let printed = print(output);
+    sentences.iter().for_each(|sentence| tell(sentence));
+    printed.map(|()| REFUSED)
+}
+
+fn repack_input(repack: &Repack) -> Result<u8, Failure> {
+    let input = Input::open(&repack.input)?;
+    output::may_print(&input.file)?;
+    let content = input.content(repack.format.or(repack.input.format()))?;
+    match content {
+        Content {
+            bytes,
+            format: Format::Text,
+        } if plan::is_plan(&bytes) => {
+            let plan = plan::read_plan(&bytes).map_err(input::bad_text)?;
+            repack_plan(repack, &plan)
+        }
+        content => repack_shelf(repack, &content.stream()?),
+    }
+}
+
+/// Repacks what is still shelved after a stream.
+fn repack_shelf(repack: &Repack, source: &Source) -> Result<u8, Failure> {
+    let outcome = Outcome::of(source);
+    let sentences = outcome.sentences(source);
+    if let Outcome::Shelved(shelved) = &outcome {
+        let printed = print_repacked(repack, &Repacking::of_shelf(shelved));
+        sentences.iter().for_each(|sentence| tell(sentence));
+        return printed.map(|()| ACCEPTED);
+    }
+    let output = match repack.json {
+        true => json::object(&outcome, &sentences),
+        false => outcome.lines(),
+    };
+    print_refused(&output, &sentences)
+}
+
+/// Repacks the masters of a plan that passes, or of a list.
+fn repack_plan(repack: &Repack, plan: &Plan) -> Result<u8, Failure> {
+    let checked = match plan.is_list() {
+        true => Ok(()),
+        false => plan.check(),
+    };
+    let (number, place, sentences) = match (checked, Repacking::of_plan(plan)) {
+        (Ok(()), Ok(repacking)) => {
+            return print_repacked(repack, &repacking).map(|()| ACCEPTED);
+        }
+        (Err(refusal), _) => {
+            let sentences = plan.sentences(refusal);
+            (refusal.fault.number(), refusal.place, sentences)
+        }
+        (_, Err(refusal)) => {
+            let sentences = plan.sentences_of_list(refusal);
+            (refusal.fault.number(), refusal.place, sentences)
+        }
+    };
+    let output = match repack.json {
+        true => json::refused_at_place(number, place, &sentences),
+        false => refused(number, place),
+    };
+    print_refused(&output, &sentences)
+}
+
+fn print_repacked(repack: &Repack, repacking: &Repacking) -> Result<(), Failure> {
+    if repack.json {
+        return print(&json::repacked(repacking));
+    }
+    let mut output = repacking.to_string();
+    if repack.list {
+        output += &format!("\n{}", repack::List(repacking));
+    }
+    print(&output)
 }

@@ -26,6 +26,8 @@ pub struct Shelved {
     /// In the order of the commands.
     pub answers: Vec<Answered>,
     pub totals: Totals,
+    /// What is still shelved.
+    pub items: Items,
     pub packing: Packing,
 }
 
@@ -78,6 +80,7 @@ impl Shelved {
         Ok(Self {
             answers,
             totals,
+            items,
             packing,
         })
     }

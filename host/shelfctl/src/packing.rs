@@ -8,6 +8,11 @@ use crate::outcome::Answered;
 /// Said once where both productions may have cartridges.
 pub const OF_BOTH: &str = "cartridges are PRODUCTION:NUMBER";
 
+/// What the cartridge of this number is called there.
+pub fn name_of_both(production: Production, number: u16) -> String {
+    format!("{}:{number}", production.number())
+}
+
 pub struct Bin {
     /// Its line of the sheet.
     pub row: Row,
@@ -83,7 +88,7 @@ impl Packing {
             production, number, ..
         } = bin.row;
         match self.of_both() {
-            true => format!("{}:{number}", production.number()),
+            true => name_of_both(production, number),
             false => number.to_string(),
         }
     }

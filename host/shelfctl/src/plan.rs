@@ -1,6 +1,6 @@
 //! Plans as people write them, and what the checker says of one.
 
-use shelf::{Entry, PlanFault, PlanRefusal, MAX_CAPACITY, MAX_ENTRIES};
+use shelf::{Entry, PlanFault, PlanRefusal, RowFault, RowRefusal, MAX_CAPACITY, MAX_ENTRIES};
 
 use crate::text::{bad, commands, BadText, Line};
 use crate::words::outside;
@@ -8,14 +8,20 @@ use crate::words::outside;
 /// A plan, and the line of the text that each of its parts stands on.
 #[derive(Debug, Default)]
 pub struct Plan {
-    capacity: u32,
-    k: u32,
+    pub capacity: u32,
+    pub k: u32,
     line: usize,
-    entries: Vec<Entry>,
+    pub entries: Vec<Entry>,
     entry_lines: Vec<usize>,
     /// Empty where the text has none; the masters are the entries' own then.
     masters: Vec<u32>,
     master_lines: Vec<usize>,
+}
+
+/// Whether a text is a plan: `plan` is its first word.
+pub fn is_plan(text: &[u8]) -> bool {
+    let first = commands(text).next();
+    matches!(first, Some(Ok(line)) if line.command == "plan")
 }
 
 /// Reads a text with `plan CAPACITY K` first, then `master SIZE` for each
@@ -67,13 +73,20 @@ fn read_head(line: &Line<'_>) -> Result<Plan, BadText> {
 
 impl Plan {
     pub fn check(&self) -> Result<(), PlanRefusal> {
-        let own: Vec<u32> = self.entries.iter().map(|entry| entry.size).collect();
-        let masters = if self.masters.is_empty() {
-            &own
-        } else {
-            &self.masters
-        };
-        shelf::check_plan(&self.entries, masters, self.capacity, self.k)
+        shelf::check_plan(&self.entries, &self.sizes(), self.capacity, self.k)
+    }
+
+    /// The sizes of its masters.
+    pub fn sizes(&self) -> Vec<u32> {
+        if self.masters.is_empty() {
+            return self.entries.iter().map(|entry| entry.size).collect();
+        }
+        self.masters.clone()
+    }
+
+    /// Whether it is a list of masters, and does not say where any of them lies.
+    pub fn is_list(&self) -> bool {
+        self.entries.is_empty() && !self.masters.is_empty()
     }
 
     /// Why the checker refused this plan, for people.
@@ -93,17 +106,29 @@ impl Plan {
         vec![format!("line {line}: {why}")]
     }
 
+    /// Why a list of masters was not repacked, for people.
+    pub fn sentences_of_list(&self, refusal: RowRefusal) -> Vec<String> {
+        let place = refusal.place;
+        match refusal.fault {
+            RowFault::CapacityOutsideLimits => {
+                let why = outside("capacity", self.capacity, 1, MAX_CAPACITY);
+                vec![format!("line {}: {}", self.line, why.unwrap_or_default())]
+            }
+            RowFault::AboveLimit => beyond(&self.master_lines, "master").into_iter().collect(),
+            RowFault::SizeOutsideLimits => {
+                let (line, size) = (self.master_lines[place - 1], self.masters[place - 1]);
+                let why = self.outside_capacity(size);
+                vec![format!("line {line}: master {place} {why}")]
+            }
+            // It is lent a row that is long enough.
+            RowFault::TooFewWords => vec![refusal.to_string()],
+        }
+    }
+
     /// Whichever of k, the entries and the masters are above the limit.
     fn above_limit(&self) -> Vec<String> {
         let most = MAX_ENTRIES as u32;
         let k = outside("k", self.k, 0, most).map(|why| format!("line {}: {why}", self.line));
-        let beyond = |lines: &[usize], what| {
-            let line = lines.get(MAX_ENTRIES)?;
-            let next = MAX_ENTRIES + 1;
-            Some(format!(
-                "line {line}: this is {what} {next}; there may be at most {most}"
-            ))
-        };
         let entries = beyond(&self.entry_lines, "entry");
         let masters = beyond(&self.master_lines, "master");
         [k, entries, masters].into_iter().flatten().collect()
@@ -133,15 +158,18 @@ impl Plan {
         }
     }
 
+    /// What to say of a size that no cartridge holds.
+    fn outside_capacity(&self, size: u32) -> String {
+        let capacity = self.capacity;
+        format!("is of {size} units; it must be from 1 to the capacity, {capacity}")
+    }
+
     /// What one entry does wrong in its cartridge.
     fn misplaced(&self, PlanRefusal { fault, place }: PlanRefusal) -> String {
         let Entry { size, bin } = self.entries[place - 1];
         let (capacity, k) = (self.capacity, self.k);
         match fault {
-            PlanFault::EntrySize => {
-                let limits = format!("from 1 to the capacity, {capacity}");
-                format!("entry {place} is of {size} units; it must be {limits}")
-            }
+            PlanFault::EntrySize => format!("entry {place} {}", self.outside_capacity(size)),
             PlanFault::EntryBin => {
                 format!("entry {place} is put into cartridge {bin}; it must be from 1 to k, {k}")
             }
@@ -154,6 +182,15 @@ impl Plan {
             }
         }
     }
+}
+
+/// What to say of more lines of a kind than there may be.
+fn beyond(lines: &[usize], what: &str) -> Option<String> {
+    let line = lines.get(MAX_ENTRIES)?;
+    let next = MAX_ENTRIES + 1;
+    Some(format!(
+        "line {line}: this is {what} {next}; there may be at most {MAX_ENTRIES}"
+    ))
 }
 
 #[cfg(test)]

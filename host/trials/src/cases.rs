@@ -12,6 +12,7 @@ use crate::paper::{size_class, SizeClass, Totals};
 use crate::plans::PlanTrial;
 use crate::production_cases;
 use crate::range_cases;
+use crate::repack_cases;
 use crate::rows::{self, Lent};
 use crate::sheet_cases;
 use crate::streams::StreamTrial;
@@ -270,6 +271,7 @@ pub fn run(program: Option<&Program>) -> Result<Cases, String> {
     production_cases::run(&mut cases);
     looks_cases::run(&mut cases);
     range_cases::run(&mut cases);
+    repack_cases::run(&mut cases);
     Ok(cases)
 }
 

@@ -5,12 +5,13 @@ use crate::compare::Outcome;
 use crate::paper::Shelved;
 use crate::streams::StreamTrial;
 use crate::{
-    either_opening, figures, independence, left_out, looks, still_shelved, true_sizes, walk,
+    either_opening, figures, independence, left_out, looks, repacked, still_shelved, true_sizes,
+    walk,
 };
 
 pub type Check = fn(&StreamTrial, &Outcome) -> Option<&'static str>;
 
-pub const CHECKS: [Check; 7] = [
+pub const CHECKS: [Check; 8] = [
     figures::fault,
     still_shelved::fault,
     true_sizes::fault,
@@ -18,6 +19,7 @@ pub const CHECKS: [Check; 7] = [
     left_out::fault,
     either_opening::fault,
     independence::fault,
+    repacked::own_fault,
 ];
 
 /// What is wrong with what the paper hands up besides its answers: the walks of

@@ -27,7 +27,7 @@ pub fn quiet_panics() {
 }
 
 /// `None` if the library's result was outside its interface.
-fn guarded<T>(call: impl FnOnce() -> T) -> Option<T> {
+pub fn guarded<T>(call: impl FnOnce() -> T) -> Option<T> {
     QUIET.store(true, Ordering::Relaxed);
     let result = panic::catch_unwind(AssertUnwindSafe(call));
     QUIET.store(false, Ordering::Relaxed);

@@ -1,5 +1,8 @@
-//! Plans to hold the shelf against: the fewest bins, exactly, for short lists,
-//! and first-fit decreasing for any.
+//! The fewest bins, exactly, for short lists: what a shelf or a plan is held
+//! against.
+
+/// The longest list whose fewest bins are searched for.
+pub const SHORT: usize = 13;
 
 /// The fewest bins for a list that grows item by item.
 pub struct Fewest {
@@ -54,27 +57,10 @@ fn fits(items: &[u64], free: &mut [u64]) -> bool {
     false
 }
 
-/// First-fit decreasing: each item's bin, from 1, and the number of bins.
-pub fn first_fit_decreasing(items: &[u32], capacity: u32) -> (Vec<u32>, u32) {
-    let mut order: Vec<usize> = (0..items.len()).collect();
-    order.sort_by_key(|&i| std::cmp::Reverse(items[i]));
-    let mut free: Vec<u32> = Vec::new();
-    let mut bins = vec![0; items.len()];
-    for i in order {
-        let size = items[i];
-        let bin = free.iter().position(|&f| f >= size).unwrap_or_else(|| {
-            free.push(capacity);
-            free.len() - 1
-        });
-        free[bin] -= size;
-        bins[i] = bin as u32 + 1;
-    }
-    (bins, free.len() as u32)
-}
-
 #[cfg(test)]
 mod tests {
     use super::*;
+    use crate::decreasing::first_fit_decreasing;
 
     #[test]
     fn the_fewest_are_found() {

@@ -1,16 +1,17 @@
-//! Compares the library with [`paper`] and [`sheet`], a simple version written
-//! from the specification alone, over random streams and plans; and holds its
-//! answers against themselves: [`checks`], and the fewest bins. How many places
-//! a count reads is no part of the interface, and is compared with what a
-//! program of its own prints ([`walk`]).
+//! Compares the library with [`paper`], [`sheet`] and [`decreasing`], a simple
+//! version written from the specification alone, over random streams, plans and rows
+//! of sizes; and holds its answers against themselves: [`checks`], and the fewest
+//! bins. How many places a count reads is no part of the interface, and is compared
+//! with what a program of its own prints ([`walk`]).
 //!
 //! `trials [--streams N] [--withdrawals N] [--productions N] [--ranges N] [--plans
-//! N] [--seed S] [--count-walk PROGRAM]`. The first difference is made small and
-//! printed with both answers, and the exit status is 1.
+//! N] [--repack N] [--seed S] [--count-walk PROGRAM]`. The first difference is made
+//! small and printed with both answers, and the exit status is 1.
 
 mod cases;
 mod checks;
 mod compare;
+mod decreasing;
 mod either_opening;
 mod families;
 mod fewest;
@@ -23,12 +24,16 @@ mod looks;
 mod looks_cases;
 mod making;
 mod met;
+mod moved;
 mod paper;
 mod plans;
 mod production_cases;
 mod productions;
 mod range_cases;
 mod ranges;
+mod repack_cases;
+mod repacked;
+mod repacking;
 mod rng;
 mod rows;
 mod settled;
@@ -53,25 +58,25 @@ use std::time::{Instant, SystemTime, UNIX_EPOCH};
 
 use checks::{fault_of_paper, CHECKS};
 use compare::{by_library, by_paper, by_paper_of, plan_by_library, Outcome};
-use fewest::{first_fit_decreasing, Fewest};
+use decreasing::first_fit_decreasing;
+use fewest::{Fewest, SHORT};
 use looks::Taken;
 use met::Met;
+use moved::Moved;
 use paper::Shelved;
 use plans::PlanTrial;
+use repacking::RepackTrial;
 use rng::Rng;
 use settled::Settled;
 use shared::Shared;
-use smaller::{show_plan, show_stream, show_walk};
+use smaller::{show_plan, show_row, show_stream, show_walk};
 use streams::{StreamTrial, COUNTS};
 use trailers::Trailers;
 use walk::{Found, Program};
 use wire::{has_sheet, Stream, PRODUCTIONS};
 
 const USAGE: &str = "usage: trials [--streams N] [--withdrawals N] [--productions N] \
-                     [--ranges N] [--plans N] [--seed S] [--count-walk PROGRAM]";
-
-/// The longest list whose fewest bins are searched for.
-const SHORT: usize = 13;
+                     [--ranges N] [--plans N] [--repack N] [--seed S] [--count-walk PROGRAM]";
 
 /// The most that `3 * opened - 5 * k` may be, for every plan of k bins: the
 /// figure that holds. The requests ask for 15 and 12.
@@ -87,6 +92,7 @@ struct Settings {
     productions: u64,
     ranges: u64,
     plans: u64,
+    repack: u64,
     seed: u64,
     count_walk: Option<Program>,
 }
@@ -118,6 +124,11 @@ impl Settings {
     fn plan(&self, index: u64) -> PlanTrial {
         plans::random(&mut Rng::of_trial(self.seed, 2 * index + 1))
     }
+
+    /// The trial of a row of this number: likewise, with another seed of its own.
+    fn row(&self, index: u64) -> RepackTrial {
+        repacking::random(&mut Rng::of_trial(self.seed.swap_bytes(), index))
+    }
 }
 
 fn settings() -> Option<Settings> {
@@ -128,6 +139,7 @@ fn settings() -> Option<Settings> {
         productions: 10_000,
         ranges: 10_000,
         plans: 10_000,
+        repack: 10_000,
         seed: now.as_nanos() as u64 % 1_000_000_000,
         count_walk: None,
     };
@@ -141,6 +153,7 @@ fn settings() -> Option<Settings> {
             "--productions" => settings.productions = number()?,
             "--ranges" => settings.ranges = number()?,
             "--plans" => settings.plans = number()?,
+            "--repack" => settings.repack = number()?,
             "--seed" => settings.seed = number()?,
             "--count-walk" => settings.count_walk = Some(Program(value.into())),
             _ => return None,
@@ -227,6 +240,13 @@ fn run(settings: &Settings) -> Result<(), Failure> {
         passed += u64::from(passes);
     }
     println!("plans: {}, of these {passed} passed", settings.plans);
+
+    let mut moved = Moved::default();
+    for index in 0..settings.repack {
+        let difference = |what| Failure::Difference(format!("row trial {index}, {what}"));
+        try_row(settings.row(index), &mut moved).map_err(difference)?;
+    }
+    println!("{moved}");
     println!("no difference, {:.1} s", start.elapsed().as_secs_f64());
     Ok(())
 }
@@ -396,6 +416,23 @@ fn try_walks(settings: &Settings, program: &Program) -> Result<String, Failure> 
         }
     }
     Ok(format!("{compared} random streams, of these {found}"))
+}
+
+/// Repacks a row, and adds it to what the run came across.
+fn try_row(trial: RepackTrial, moved: &mut Moved) -> Result<(), String> {
+    use repacked::{by_library, by_paper, fault};
+    let kind = trial.kind;
+    let outcome = by_library(&trial);
+    if outcome != by_paper(&trial) {
+        let differs = |trial: &RepackTrial| by_library(trial) != by_paper(trial);
+        return Err(format!("{kind}\n{}", show_row(trial, differs)));
+    }
+    if let Some(what) = fault(&trial, &outcome) {
+        let faulty = |trial: &RepackTrial| fault(trial, &by_library(trial)).is_some();
+        return Err(format!("{kind}: {what}\n{}", show_row(trial, faulty)));
+    }
+    moved.add(&trial, &outcome);
+    Ok(())
 }
 
 /// Whether the plan passed, by the library's own answer.

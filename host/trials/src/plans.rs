@@ -1,7 +1,7 @@
 //! Random plans: good ones of several makers, and damaged ones.
 
+use crate::decreasing::first_fit_decreasing;
 use crate::families::{self, Family};
-use crate::fewest::first_fit_decreasing;
 use crate::lists::roomy_opening;
 use crate::paper::{self, MOST_ENTRIES};
 use crate::rng::Rng;

@@ -1,4 +1,5 @@
-//! The two rows that are lent with a stream, and what a call leaves in them.
+//! The rows that are lent, the two with a stream or one with sizes, and what a call
+//! leaves in them.
 
 use std::fmt;
 
@@ -31,26 +32,27 @@ impl Lent {
 
 /// A lent row with the words around it.
 #[derive(Clone, PartialEq, Eq)]
-struct Row<T>(Vec<T>);
+pub struct Row<T>(Vec<T>);
 
 impl<T: PartialEq> Row<T> {
-    fn filled(lent: usize, word: impl FnMut() -> T) -> Self {
+    pub fn filled(lent: usize, word: impl FnMut() -> T) -> Self {
         let mut words = Vec::new();
         words.resize_with(BEFORE + lent + AFTER, word);
         Self(words)
     }
 
-    fn lent(&self) -> &[T] {
+    pub fn lent(&self) -> &[T] {
         &self.0[BEFORE..self.0.len() - AFTER]
     }
 
-    fn lend(&mut self) -> &mut [T] {
+    /// The words that a call may write.
+    pub fn lend(&mut self) -> &mut [T] {
         let end = self.0.len() - AFTER;
         &mut self.0[BEFORE..end]
     }
 
     /// The first word in which the rows differ, numbered from 1.
-    fn difference(&self, other: &Self, show: fn(&T) -> String) -> String {
+    pub fn difference(&self, other: &Self, show: fn(&T) -> String) -> String {
         let mut pairs = (1 - BEFORE as i64..).zip(self.0.iter().zip(&other.0));
         match pairs.find(|(_, (one, other))| one != other) {
             None => "no difference".to_string(),
@@ -58,7 +60,7 @@ impl<T: PartialEq> Row<T> {
         }
     }
 
-    fn show(&self, show: fn(&T) -> String) -> String {
+    pub fn show(&self, show: fn(&T) -> String) -> String {
         let words: Vec<String> = self.lent().iter().take(SHOWN).map(show).collect();
         let more = if self.lent().len() > SHOWN {
             " ..."

@@ -5,6 +5,8 @@ use std::time::{Duration, Instant};
 
 use crate::compare::{by_library, by_paper, plan_by_library, verdict};
 use crate::plans::PlanTrial;
+use crate::repacked;
+use crate::repacking::RepackTrial;
 use crate::rows::{self, Lent};
 use crate::streams::StreamTrial;
 use crate::walk::{self, Program};
@@ -225,6 +227,45 @@ fn smaller_plans(trial: &PlanTrial) -> Box<dyn Iterator<Item = PlanTrial> + '_> 
     Box::new(dropped.chain(capacities).chain(ks).chain(lowered))
 }
 
+/// Smaller sizes, and fewer, leave a plan that is known as it is.
+fn smaller_rows(trial: &RepackTrial) -> Box<dyn Iterator<Item = RepackTrial> + '_> {
+    let len = trial.sizes.len();
+    let dropped = blocks(len).flat_map(move |block| {
+        let mut smaller = trial.clone();
+        smaller.sizes.drain(block.clone());
+        // The lent row keeps its distance from the number of sizes.
+        let lent = trial.lent.saturating_sub(block.len());
+        let shorter = RepackTrial {
+            lent,
+            ..smaller.clone()
+        };
+        [shorter, smaller]
+    });
+    let with = |capacity: u32, lent: usize, old: u32| RepackTrial {
+        capacity,
+        lent,
+        old,
+        known: trial.known.filter(|_| capacity == trial.capacity),
+        ..trial.clone()
+    };
+    let scaled = [100, 10, 2].into_iter().map(move |by| RepackTrial {
+        sizes: trial.sizes.iter().map(|size| size / by).collect(),
+        ..with(trial.capacity / by, trial.lent, trial.old)
+    });
+    let capacities = lower(trial.capacity).map(move |n| with(n, trial.lent, trial.old));
+    let lents = lower(trial.lent as u32).map(move |n| with(trial.capacity, n as usize, trial.old));
+    let olds = lower(trial.old).map(move |n| with(trial.capacity, trial.lent, n));
+    let lowered = (0..len).flat_map(move |i| {
+        lower(trial.sizes[i]).map(move |n| {
+            let mut smaller = trial.clone();
+            smaller.sizes[i] = n;
+            smaller
+        })
+    });
+    let shorter = dropped.chain(scaled).chain(capacities);
+    Box::new(shorter.chain(lents).chain(olds).chain(lowered))
+}
+
 /// Shrinks a stream on which `fails` holds and shows it with both answers.
 pub fn show_stream(trial: StreamTrial, fails: impl Fn(&StreamTrial) -> bool) -> String {
     let trial = shrink(trial, smaller_streams, fails);
@@ -274,6 +315,21 @@ pub fn show_plan(trial: PlanTrial, fails: impl Fn(&PlanTrial) -> bool) -> String
         trial.bins,
         trial.items,
         verdict(trial.by_paper()),
+    )
+}
+
+/// Shrinks a row on which `fails` holds and shows it with both answers.
+pub fn show_row(trial: RepackTrial, fails: impl Fn(&RepackTrial) -> bool) -> String {
+    let trial = shrink(trial, smaller_rows, fails);
+    let (paper, library) = (repacked::by_paper(&trial), repacked::by_library(&trial));
+    format!(
+        "row, capacity {}, old count {}, lent {} words:\n  sizes {:?}\n\
+         paper:   {paper}\nlibrary: {library}\npaper against library: {}",
+        trial.capacity,
+        trial.old,
+        trial.lent,
+        trial.sizes,
+        paper.difference(&library),
     )
 }
 

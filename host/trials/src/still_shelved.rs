@@ -41,6 +41,15 @@ impl Told {
         }
     }
 
+    /// All of a stream is told by these words, or it is said why it cannot be.
+    fn after(stream: &Stream, words: &[u16]) -> Result<Self, &'static str> {
+        let mut told = Self::new(stream.opening);
+        for (&command, &word) in stream.commands.iter().zip(words) {
+            told.take_in(command, word)?;
+        }
+        Ok(told)
+    }
+
     /// Takes in the answer to the next command, or says why it cannot be
     /// answered so.
     fn take_in(&mut self, command: Command, word: u16) -> Result<(), &'static str> {
@@ -188,6 +197,11 @@ impl Told {
         (loads, held)
     }
 
+    /// The plan of each production.
+    fn own_plans(&self) -> impl Iterator<Item = PlanTrial> + '_ {
+        (0..PRODUCTIONS).map(|production| self.own_plan(production))
+    }
+
     /// The plan of a production's items, with k the number that it opened.
     fn own_plan(&self, production: usize) -> PlanTrial {
         let items = self.shelved(production);
@@ -205,16 +219,21 @@ impl Told {
     }
 }
 
+/// Each production's own plan after an accepted stream that was answered with these
+/// words.
+pub fn own_plans(stream: &Stream, words: &[u16]) -> Result<Vec<PlanTrial>, &'static str> {
+    let told = Told::after(stream, words)?;
+    Ok(told.own_plans().collect())
+}
+
 /// What is wrong with the items that an accepted stream leaves shelved.
 pub fn fault(trial: &StreamTrial, outcome: &Outcome) -> Option<&'static str> {
     let totals = outcome.totals()?;
-    let Stream { opening, commands } = Stream::read(&trial.stream).ok()?;
-    let mut told = Told::new(opening);
-    for (command, &word) in commands.into_iter().zip(outcome.rows.answers()) {
-        if let Err(fault) = told.take_in(command, word) {
-            return Some(fault);
-        }
-    }
+    let stream = Stream::read(&trial.stream).ok()?;
+    let told = match Told::after(&stream, outcome.rows.answers()) {
+        Ok(told) => told,
+        Err(fault) => return Some(fault),
+    };
     let items = told.items.iter().flatten().count();
     let opened = usize::from(told.opened.iter().sum::<u16>());
     if (totals.items, totals.opened) != (items, opened) {
@@ -229,7 +248,7 @@ pub fn fault(trial: &StreamTrial, outcome: &Outcome) -> Option<&'static str> {
     if has_sheet && on_sheet(&outcome.sheet, 26..=29) != Some(held.concat()) {
         return Some("the sheet does not hold what is still shelved");
     }
-    let mut plans = (0..PRODUCTIONS).map(|production| told.own_plan(production));
+    let mut plans = told.own_plans();
     if plans.any(|plan| plan_by_library(&plan) != Some(Ok(()))) {
         return Some("a production's own plan does not pass");
     }

@@ -53,8 +53,8 @@ pub fn lent(rng: &mut Rng, kind: &'static str, pieces: Vec<Vec<u8>>) -> StreamTr
     }
 }
 
-/// The length of a row that is lent for so many commands.
-fn random_length(rng: &mut Rng, after: usize) -> usize {
+/// The length of a row that is lent for so many answers.
+pub fn random_length(rng: &mut Rng, after: usize) -> usize {
     match rng.between(0, 19) {
         0..=7 => after,
         8..=10 => after + rng.place(9),
