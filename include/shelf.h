@@ -6,7 +6,7 @@
  * Link with libshelf.a, for x86-64 Linux: `rt staticlib shelf` proves the
  * library and writes target/staticlib/libshelf.a. A call allocates nothing; allow
  * it 216 KB of stack (shelf_stream), 240 KB (shelf_sheet), 17 KB
- * (shelf_check_plan) or 100 KB (shelf_repack).
+ * (shelf_check_plan) or 104 KB (shelf_repack).
  *
  * The calls are total: every input within the rules on pointers below has the
  * result described here. No call keeps a pointer, or any state, after it

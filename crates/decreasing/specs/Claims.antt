@@ -39,7 +39,8 @@ WrittenAll =
     → written capacity empty (largestFirst (items 1 sizes)) row ≡ newBins capacity sizes ++ drop (length sizes) row
 
 -- Own shelves can be repacked: the sizes that a production has still shelved are a row that no check refuses, if a word is lent for each. So what is
--- promised holds of it, and against the shelf's own plan too. Proved in ../proofs/OwnShelf.antt.
+-- promised holds of it, and against the shelf's own plan too. Proved in ../proofs/OwnShelf.antt of every opening within its limits and every list of
+-- commands that a stream can have.
 pub record OwnShelf (o : Opening) (q : Production) (cs : List Command) : Type 0 where
   pub sound : (words : ℕ) → length (shelvedSizes o q cs) ≤ words → checkRow (o .capacity) words (shelvedSizes o q cs) ≡ RowResult.Sound
   pub no-worse : 2 * newCount (o .capacity) (shelvedSizes o q cs) ≤ 3 * used (shelfPlan o q cs)

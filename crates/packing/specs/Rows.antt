@@ -24,6 +24,6 @@ pub record SoundRow (capacity words : ℕ) (sizes : List ℕ) : Type 0 where
   pub sizes-good : (s : ℕ) → List·Memᴰ s sizes → (1 ≤ s) × (s ≤ capacity)
   pub words-enough : length sizes ≤ words
 
--- No other row is refused. Proved in ../proofs/Rows.antt.
+-- A row is refused exactly when it is not such a one. Proved in ../proofs/Rows.antt.
 abbrev pub RowsExact : Type 0
 RowsExact = (capacity words : ℕ) (sizes : List ℕ) → (checkRow capacity words sizes ≡ RowResult.Sound) ↔ SoundRow capacity words sizes
