@@ -2,15 +2,11 @@
 use mathlib.Core.Path.{_≡_, refl, sym, _∙_, ap}
 use mathlib.Core.List.{List, [], _∷_, _++_}
 use Prim.Native.Nat.{ℕ, zero, suc, _+_, _<_}
-use native.Mathlib.Numerals.{add-one}
 use native.Mathlib.Omega.{arith}
-use lib.ListN.{length, take, drop, getD, set}
-use lib.Seq.{paste-suc, take-length}
+use lib.ListN.{length, drop, getD, set}
+use lib.Seq.{take-length}
+use Rattle.sorting.proofs.InOrder.{copied, copied-next}
 use Rattle.repack.specs.Words.{word, words}
-
--- The first n words of a row are those of another.
-abbrev pub handed : (words row : List ℕ) (n : ℕ) → List ℕ
-handed words row n = take n words ++ drop n row
 
 module _ (c : ℕ) where
   pub words-length : (p : ℕ) (sizes : List ℕ) → length (words c p sizes) ≡ length sizes
@@ -25,16 +21,12 @@ module _ (c : ℕ) where
   word-at p (s ∷ ss) (suc i) h = let z : p + suc i ≡ suc p + i = omega arith in rw z (word-at (suc p) ss i (omega arith))
 
   module _ (sizes row : List ℕ) where
-    pub lay-one : (now : List ℕ) (i w : ℕ) → i < length sizes → i < length row → w ≡ word c (getD sizes i 0) i → now ≡ handed (words c 0 sizes) row i
-        → set now i w ≡ handed (words c 0 sizes) row (i + 1)
+    pub lay-one : (now : List ℕ) (i w : ℕ) → i < length sizes → i < length row → w ≡ word c (getD sizes i 0) i → now ≡ copied (words c 0 sizes) row i
+        → set now i w ≡ copied (words c 0 sizes) row (i + 1)
     lay-one now i w h l e f =
         let z : 0 + i ≡ i = omega arith in
-        let y : 0 + suc i ≡ suc i = omega arith in
-        let laid = words c 0 sizes in
-        let at : w ≡ getD laid i 0 = e ∙ sym (rw z at (word-at 0 sizes i h)) in
-        rw at
-        (ap (λ a. set a i (getD laid i 0)) f ∙ (rw (z, y) at (paste-suc row 0 laid i 0 (omega arith) (omega (arith, words-length 0 sizes))))
-        ∙ ap (handed laid row) (sym (add-one i)))
+        let at : w ≡ getD (words c 0 sizes) i 0 = e ∙ sym (rw z at (word-at 0 sizes i h)) in
+        rw at (copied-next (words c 0 sizes) row now i (omega (arith, words-length 0 sizes)) l f)
 
-    pub all-laid : (i : ℕ) → i ≡ length sizes → handed (words c 0 sizes) row i ≡ words c 0 sizes ++ drop (length sizes) row
+    pub all-laid : (i : ℕ) → i ≡ length sizes → copied (words c 0 sizes) row i ≡ words c 0 sizes ++ drop (length sizes) row
     all-laid i e = rw (e, ← words-length 0 sizes, take-length (words c 0 sizes))

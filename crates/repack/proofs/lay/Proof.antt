@@ -4,12 +4,13 @@ use Prim.Native.Nat.{_-_, _≤_}
 use native.Mathlib.Omega.{arith}
 use lib.ListN.{length}
 use Rattle.repack.specs.Words.{words}
-use Rattle.repack.proofs.Laying.{handed, lay-one, all-laid}
+use Rattle.sorting.proofs.InOrder.{copied}
+use Rattle.repack.proofs.Laying.{lay-one, all-laid}
 use Rattle.repack.proofs.lay.Statement.{statement}
 use Rattle.repack.proofs.lay.Tie as tie
 
 abbrev Inv-loop : tie.InvT-loop
-Inv-loop sizes row₀ capacity i₀ row i = (i ≤ length sizes) × (row ≡ handed (words capacity 0 sizes) row₀ i)
+Inv-loop sizes row₀ capacity i₀ row i = (i ≤ length sizes) × (row ≡ copied (words capacity 0 sizes) row₀ i)
 
 abbrev μ-loop : tie.MeasureT-loop
 μ-loop sizes row₀ capacity i₀ row i = length sizes - i
