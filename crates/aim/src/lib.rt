@@ -1,5 +1,7 @@
 // The aim of an item, by the engine's five trees: tree n, for n from 1 to 4, shows the bins of class n, and tree 0 those of class 1 that hold an A.
 // Which tree is searched for an item, the class of the bins that a tree shows, and what is counted once an item is accepted or taken out.
+#![tactic(auto)]
+
 ghost use Rattle.std.specs.Prelude.{◌≡◌, ◌≤◌, ◌<◌};
 ghost use Rattle.packing.specs.SizeClasses.{size_class, number_of};
 ghost use Rattle.aim.specs.Aims.{home, b2_tree, trees_with, a_for, only_a, accepting, Acceptable, withdrawing};

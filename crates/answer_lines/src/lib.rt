@@ -1,4 +1,6 @@
 // The lines of the answers to an accepted stream: its commands are walked once more, each beside its words in both rows.
+#![tactic(auto)]
+
 ghost use Rattle.std.specs.Prelude.{◌∷◌, []};
 ghost use Rattle.text.specs.Lines.{line};
 ghost use Rattle.text.specs.Writing.{Room, Wrote};

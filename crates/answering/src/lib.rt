@@ -1,4 +1,6 @@
 // One command after the opening, over the store of its production: which function answers it.
+#![tactic(auto)]
+
 ghost use Rattle.engine.specs.Store.{store, Ready};
 ghost use Rattle.engine.specs.Done.{Done};
 

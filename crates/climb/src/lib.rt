@@ -1,4 +1,6 @@
 // A place of a tournament tree is set: the climb from its leaf towards the root that makes every node hold the larger of its children again.
+#![tactic(auto)]
+
 ghost use Rattle.std.specs.Prelude.{◌≡◌, ◌≤◌, ◌<◌, max, get_or};
 ghost use Rattle.tournament.specs.Trees.{leaves, sibling, Tree};
 ghost use Rattle.climb.specs.Stored.{Stored};

@@ -1,4 +1,6 @@
 // A result as one 64-bit number, for C and Rust.
+#![tactic(auto)]
+
 ghost use Rattle.std.specs.Prelude.{◌≡◌, ◌^◌, ◌<◌};
 ghost use Rattle.codes.specs.Codes.{refusal_code, stream_code, FiguresFit, plan_code, PlaceFits, repack_code, RepackFits, pair_code, PairFits};
 

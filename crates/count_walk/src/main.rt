@@ -1,6 +1,8 @@
 // The program `count_walk`: it reads a stream from standard input, and prints what a count after all its commands hands back, the figure and the places
 // read, in production 0 and on a second line in production 1. Command 03 asks for the figure alone; here the trials see both. Of a stream that is
 // refused, or longer than `shelve` takes, it prints nothing.
+#![tactic(auto)]
+
 ghost use Rattle.std.specs.Prelude.{◌≡◌};
 ghost use Rattle.packing.specs.Limits.{most_commands};
 ghost use Rattle.packing.specs.Streams.{verdict};

@@ -1,6 +1,8 @@
 // The engine: the placing step. It finds a bin by the trees, enters the item in the ledger, notes where it lies, and shows the bin's row of the ledger
 // in the trees, which are an index over it. Trees, ledger and notes are lent by the caller; what is small goes by value. Of productions the step knows
 // nothing: the caller tells it what is left of the stock for this one.
+#![tactic(auto)]
+
 ghost use Rattle.std.specs.Prelude.{◌≡◌, true, ◌-◌, ◌≤◌, ◌<◌};
 ghost use Rattle.packing.specs.declared.Outcome.TheVariants.{Refused};
 ghost use Rattle.packing.specs.Sending.{shelves_item};

@@ -1,5 +1,7 @@
 // Spaces, and numbers right-aligned with spaces, written into a row of bytes. Each function takes the place where its text begins and answers the
 // place behind it.
+#![tactic(auto)]
+
 ghost use Rattle.std.specs.Prelude.{◌≤◌, length};
 ghost use Rattle.text.specs.Lines.{decimal};
 ghost use Rattle.text.specs.Writing.{Room, Wrote};

@@ -1,4 +1,6 @@
 // The front of a command stream: the operand-width table, operands, and the command that stands there.
+#![tactic(auto)]
+
 ghost use Rattle.std.specs.Prelude.{◌≡◌, ◌≤◌, length, drop};
 ghost use Rattle.packing.specs.Productions.{production_of};
 ghost use Rattle.packing.specs.Streams.{is_opening, widths, lookup, names_none, whole, front_of, WholeFront};

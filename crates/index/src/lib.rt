@@ -1,5 +1,7 @@
 // The index over the ledger: five tournament trees in one row of words. Tree n, for n from 1 to 4, shows the free space of the bins of class n; tree 0
 // that of the bins of class 1 that hold an A.
+#![tactic(auto)]
+
 ghost use Rattle.std.specs.Prelude.{◌≡◌};
 ghost use Rattle.ledger.specs.Rows.{class_in};
 ghost use Rattle.ledger.specs.Offers.{offers};

@@ -1,6 +1,8 @@
 // The ledger: what is known of each bin, in plain rows and without a tree. Bin i + 1 has the row at place i, of four words; a place whose bin is not
 // opened has a row of zeros. Beside it the notes: what is known of the item of each command, a row of four words at the command's number. Both are lent
 // by the caller, whole.
+#![tactic(auto)]
+
 ghost use Rattle.ledger.specs.Entering.{Enterable, Entered};
 ghost use Rattle.ledger.specs.Leaving.{Leavable, HasLeft};
 ghost use Rattle.ledger.specs.Settling.{Settleable, HasSettled};

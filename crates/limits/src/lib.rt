@@ -1,4 +1,6 @@
 // "What the shelf consists of": tests of document 01's limits.
+#![tactic(auto)]
+
 ghost use Rattle.std.specs.Prelude.{◌≡◌, min, max};
 ghost use Rattle.packing.specs.Limits.{within, opening_good};
 

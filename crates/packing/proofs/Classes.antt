@@ -39,7 +39,7 @@ put_classes test new i (b ∷ bs) = go (test b) (put_classes test new i bs)
     go false r = (r.0, ap (λ l. b.class ∷ l) r.1)
 
 module _ (o : Opening) where
-  move_grown : {left n : ℕ} {p q : Packing} {c : Command} {a : Outcome} → Move o left p n c a q → Grown p q
+  move_grown : {left n : ℕ} {p : Packing} {c : Command} {q : Packing} {a : Outcome} → Move o left p n c a q → Grown p q
   unfolding placed without settling
   move_grown {n = n} {p = p} (places {c = c} h) =
       let i = item_of o n c in

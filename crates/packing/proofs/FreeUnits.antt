@@ -54,7 +54,7 @@ module _ (o : Opening) where
     from_one : 1 ≤ bin
     free_is : free ≡ free_on o bin q
 
-  left_by : {left n : ℕ} {p q : Packing} {c : Command} {a : Outcome} (bin : ℕ) → Move o left p n c a q → bins_named a ≡ bin ∷ [] → Left q bin (free_units a)
+  left_by : {left n : ℕ} {p : Packing} {c : Command} {q : Packing} {a : Outcome} (bin : ℕ) → Move o left p n c a q → bins_named a ≡ bin ∷ [] → Left q bin (free_units a)
   left_by {n = n} {p = p} bin (places {c = c} h) e = let here : bin_for o p (item_of o n c) ≡ bin = cc in record { from_one = omega (arith, here); free_is = cc }
   left_by {p = p} bin (withdraws {named = named} h) e = let here : bin_holding named p ≡ bin = cc in record { from_one = omega (arith, here); free_is = cc }
   left_by {p = p} bin (settles {named = named} h) e = let here : bin_holding named p ≡ bin = cc in record { from_one = omega (arith, here); free_is = cc }

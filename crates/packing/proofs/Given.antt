@@ -201,7 +201,7 @@ module _ (o : Opening) where
     refused_out : {named : ℕ} {reason : ItemReason} → Told (Withdraw named) (Refused reason)
     refused_settling : {named size : ℕ} {reason : ItemReason} → Told (Settle named size) (Refused reason)
 
-  told_by : {left n : ℕ} {p q : Packing} {c : Command} {a : Outcome} → Move o left p n c a q → left ≤ o.stock → Reached o p → Told c a
+  told_by : {left n : ℕ} {p : Packing} {c : Command} {q : Packing} {a : Outcome} → Move o left p n c a q → left ≤ o.stock → Reached o p → Told c a
   told_by {left = left} {n = n} {p = p} (places {c = c} i) few h =
       let bin = bin_for o p (item_of o n c) in
       placed_in {bin = bin} {free = free_on o bin (placed o p (item_of o n c))}

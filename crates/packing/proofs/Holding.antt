@@ -114,16 +114,16 @@ held_settled n named size on =
     ∙ sym (map_reversed (settled named size) (map (λ s. s.item) (keep here on)) [])
 
 module _ (o : Opening) where
-  holds_move : (left n : ℕ) (p q : Packing) (c : Command) (a : Outcome) (on : List Shelved) → Move o left p n c a q → Holds p on → Holds q (shelving o n c a on)
-  holds_move left n p q c a on (places d) h k =
+  holds_move : (left n : ℕ) (p : Packing) (c : Command) (q : Packing) (a : Outcome) (on : List Shelved) → Move o left p n c a q → Holds p on → Holds q (shelving o n c a on)
+  holds_move left n p c q a on (places d) h k =
       placed_items o k p (item_of o n c) ∙ ap (grown (eqb (bin_for o p (item_of o n c)) k) (item_of o n c)) (h k) ∙ sym (held_more k (bin_for o p (item_of o n c)) (item_of o n c) on)
-  holds_move left n p q c a on (withdraws {named = named} e) h k =
+  holds_move left n p c q a on (withdraws {named = named} e) h k =
       without_items k named p ∙ ap (keep (λ i. not (is_named named i))) (h k) ∙ sym (held_less k named on)
-  holds_move left n p q c a on (settles {named = named} {size = size} e) h k =
+  holds_move left n p c q a on (settles {named = named} {size = size} e) h k =
       settling_items k named (stored o size) p ∙ ap (map (settled named (stored o size))) (h k) ∙ sym (held_settled k named (stored o size) on)
-  holds_move left n p q c a on counts h k = h k
-  holds_move left n p q c a on switches h k = h k
-  holds_move left n p q c a on (refuses z) h k = h k
+  holds_move left n p c q a on counts h k = h k
+  holds_move left n p c q a on switches h k = h k
+  holds_move left n p c q a on (refuses z) h k = h k
 
   pub holds : (q : Production) (cs : List Command) → Holds (packing o q cs) (still_shelved o q cs)
   unfolding keep

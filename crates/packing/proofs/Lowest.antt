@@ -36,7 +36,7 @@ stops_there test (a ∷ bs) b later e = go (test a) refl e (stops_there test bs 
     go true q e r = let same : a ≡ b = cc in subst (λ x. test x ≡ true) same q
     go false q e r = r e
 
-lowest_by : {o : Opening} {left n : ℕ} {p q : Packing} {c : Command} {a : Outcome} (bin free : ℕ) → Move o left p n c a q → a ≡ Placed bin free → Lowest o p (item_of o n c) bin
+lowest_by : {o : Opening} {left n : ℕ} {p : Packing} {c : Command} {q : Packing} {a : Outcome} (bin free : ℕ) → Move o left p n c a q → a ≡ Placed bin free → Lowest o p (item_of o n c) bin
 lowest_by {o = o} {n = n} {p = p} bin free (places {c = c} h) f =
     let here : bin_for o p (item_of o n c) ≡ bin = cc in
     rw (← here)

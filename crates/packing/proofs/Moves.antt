@@ -99,7 +99,7 @@ module _ (o : Opening) where
   -- production, which leave this one's packing as it is, and take of the stock.
   pub data Trace : ℕ → Packing → List Step → ℕ → Packing → Type 0 where
     ends : {n e : ℕ} {p : Packing} → n ≤ e → Trace n p [] e p
-    moves : {n k e left : ℕ} {p p' q : Packing} {r : Production} {c : Command} {a : Outcome} {ts : List Step} → n ≤ k → left ≤ o.stock
+    moves : {n k e left : ℕ} {p : Packing} {c : Command} {p' q : Packing} {r : Production} {a : Outcome} {ts : List Step} → n ≤ k → left ≤ o.stock
         → Move left p k c a p' → Trace (suc k) p' ts e q → Trace n p (record { number = k; production = r; command = c; before = p; outcome = a } ∷ ts) e q
 
   -- A trace from a number on is one from an earlier number on.
@@ -135,7 +135,7 @@ module _ (o : Opening) where
   -- keeps.
   pub carried : (Kept : ℕ → Packing → List Shelved → Type 0)
       → ((n k : ℕ) (p : Packing) (on : List Shelved) → n ≤ k → Kept n p on → Kept k p on)
-      → ((left n : ℕ) (p q : Packing) (c : Command) (a : Outcome) (on : List Shelved) → Move left p n c a q → Kept n p on → Kept (suc n) q (shelving o n c a on))
+      → ((left n : ℕ) (p : Packing) (c : Command) (q : Packing) (a : Outcome) (on : List Shelved) → Move left p n c a q → Kept n p on → Kept (suc n) q (shelving o n c a on))
       → {n e : ℕ} {p q : Packing} {ts : List Step} → Trace n p ts e q → (on : List Shelved) → Kept n p on → Kept e q (shelved_by o ts on)
   carried Kept later keeps (ends l) on h = later _ _ _ on l h
   carried Kept later keeps (moves l b m r) on h = carried Kept later keeps r _ (keeps _ _ _ _ _ _ on m (later _ _ _ on l h))
@@ -154,7 +154,7 @@ abbrev pub is_change : Outcome → Bool
 is_change a = is_placed a || is_altered a || is_switched a
 
 -- A command that changes nothing leaves the shelf as it was, and the items on it.
-pub unchanged : {o : Opening} {left n : ℕ} {p q : Packing} {c : Command} {a : Outcome} → Move o left p n c a q → (is_change a ≡ true → ⊥)
+pub unchanged : {o : Opening} {left n : ℕ} {p : Packing} {c : Command} {q : Packing} {a : Outcome} → Move o left p n c a q → (is_change a ≡ true → ⊥)
     → (q ≡ p) × ((r : Production) → belonging r c ≡ r) × ((on : List Shelved) → shelving o n c a on ≡ on)
 unchanged (places d) z = absurd (z refl)
 unchanged (withdraws e) z = absurd (z refl)

@@ -113,7 +113,7 @@ module _ (o : Opening) (named : ℕ) where
       stays (moves f b (refuses z) r) l on out sp = stays r (omega arith) on (λ t x. out t (Memᴰ.tail x)) (λ t m s x. sp t m s (Memᴰ.tail x))
 
       -- The step of its number that is placed puts it there, and from then on the test says of the list what it says of the item.
-      put_there : {left n : ℕ} {p q : Packing} {c : Command} {a : Outcome} (on : List Shelved) → Move o left p n c a q → is_placed a ≡ true → on_list on ≡ false
+      put_there : {left n : ℕ} {p : Packing} {c : Command} {q : Packing} {a : Outcome} (on : List Shelved) → Move o left p n c a q → is_placed a ≡ true → on_list on ≡ false
           → on_list (shelving o n c a on) ≡ test (item_of o n c)
       put_there {n = n} {c = c} on (places h) x e = with_it n c _ on e
       put_there on (withdraws h) x e = absurd (false≢true x)
@@ -153,7 +153,7 @@ module _ (o : Opening) (named : ℕ) where
         pub gone : on_list on ≡ false
 
       pub gone_by : (Ends : Step → Type 0)
-          → ((left k : ℕ) (p q : Packing) (r : Production) (c : Command) (a : Outcome) (on : List Shelved) → Lying o k p on → Move o left p k c a q
+          → ((left k : ℕ) (p : Packing) (r : Production) (c : Command) (q : Packing) (a : Outcome) (on : List Shelved) → Lying o k p on → Move o left p k c a q
           → Ends (record { number = k; production = r; command = c; before = p; outcome = a }) → Gone k (shelving o k c a on))
           → {n e : ℕ} {p q : Packing} {ts : List Step} → Trace o n p ts e q → (on : List Shelved) → Lying o n p on
           → (t : Step) → Memᴰ t ts → Ends t → on_list (shelved_by o ts on) ≡ false

@@ -50,7 +50,7 @@ module _ (o : Opening) where
   b2s_are q cs = omega (arith, trace_b2s (trace o q cs))
 
   -- Every number that a move answers is that of a bin which then is opened.
-  move_named : {left n : ℕ} {p q : Packing} {c : Command} {a : Outcome} → Move o left p n c a q → (bin : ℕ) → Memᴰ bin (bins_named a) → (1 ≤ bin) × (bin ≤ opened q)
+  move_named : {left n : ℕ} {p : Packing} {c : Command} {q : Packing} {a : Outcome} → Move o left p n c a q → (bin : ℕ) → Memᴰ bin (bins_named a) → (1 ≤ bin) × (bin ≤ opened q)
   move_named {n = n} {p = p} (places {c = c} h) =
       each_cons (λ bin. (1 ≤ bin) × (bin ≤ _)) (omega (arith, opened_placed o p (item_of o n c))) (λ bin m. absurd (Memᴰ.not-nil m))
   move_named {p = p} (withdraws {named = named} e) =

@@ -180,7 +180,7 @@ module _ (o : Opening) where
   opened_settling named size p = length-map p.bins (settled_bin named size)
 
   -- No move opens more than what is left of the stock, nor than whatever is no less.
-  pub opened_move : {left n : ℕ} {p q : Packing} {c : Command} {a : Outcome} (most : ℕ) → Move o left p n c a q → left ≤ most → opened p ≤ most → opened q ≤ most
+  pub opened_move : {left n : ℕ} {p : Packing} {c : Command} {q : Packing} {a : Outcome} (most : ℕ) → Move o left p n c a q → left ≤ most → opened p ≤ most → opened q ≤ most
   opened_move {left = left} {n = n} {p = p} most (places {c = c} d) few l =
       omega (arith, opened_placed p (item_of o n c), in_stock p (item_of o n c) left most d.was_placed.not_spent few l)
   opened_move {p = p} most (withdraws {named = named} e) few l = omega (arith, opened_without named p)
@@ -189,7 +189,7 @@ module _ (o : Opening) where
   opened_move most switches few l = l
   opened_move most (refuses z) few l = l
 
-  sound_move : {left n : ℕ} {p q : Packing} {c : Command} {a : Outcome} → Move o left p n c a q → ((b : Bin) → Memᴰ b p.bins → SoundBin o b)
+  sound_move : {left n : ℕ} {p : Packing} {c : Command} {q : Packing} {a : Outcome} → Move o left p n c a q → ((b : Bin) → Memᴰ b p.bins → SoundBin o b)
       → (b : Bin) → Memᴰ b q.bins → SoundBin o b
   sound_move {n = n} {p = p} (places {c = c} d) h = sound_placed p (item_of o n c) refl d.was_placed.within_capacity h
   sound_move {p = p} (withdraws {named = named} e) h = sound_without named p h
@@ -198,7 +198,7 @@ module _ (o : Opening) where
   sound_move switches h = h
   sound_move (refuses z) h = h
 
-  pub reached_move : {left n : ℕ} {p q : Packing} {c : Command} {a : Outcome} → Move o left p n c a q → left ≤ o.stock → Reached p → Reached q
+  pub reached_move : {left n : ℕ} {p : Packing} {c : Command} {q : Packing} {a : Outcome} → Move o left p n c a q → left ≤ o.stock → Reached p → Reached q
   reached_move m few h = record { bins_sound = sound_move m h.bins_sound; stock_lasts = opened_move o.stock m few h.stock_lasts }
 
   trace_reached : {n e : ℕ} {p q : Packing} {ts : List Step} → Trace o n p ts e q → Reached p → Reached q

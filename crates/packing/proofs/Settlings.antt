@@ -127,11 +127,11 @@ module _ (named : ℕ) where
       command_is : t.command ≡ Settle named size
       accepted : is_refused t.outcome ≡ false
 
-    settle_down : (left k : ℕ) (p q : Packing) (r : Production) (c : Command) (a : Outcome) (on : List Shelved) → Lying o k p on → Move o left p k c a q
+    settle_down : (left k : ℕ) (p : Packing) (r : Production) (c : Command) (q : Packing) (a : Outcome) (on : List Shelved) → Lying o k p on → Move o left p k c a q
         → Settles (record { number = k; production = r; command = c; before = p; outcome = a }) → Gone o named (awaits named) (its_number unsettled) no_new k (shelving o k c a on)
-    settle_down left k p q r c a on h (places x) z = absurd (false≢true (ap shelves_item (sym z.command_is) ∙ x.shelves))
-    settle_down left k p q r c a on h (withdraws x) z = let e = z.command_is in clash (cc)
-    settle_down left k p q r c a on h (settles {named = m} {size = size} x) z =
+    settle_down left k p r c q a on h (places x) z = absurd (false≢true (ap shelves_item (sym z.command_is) ∙ x.shelves))
+    settle_down left k p r c q a on h (withdraws x) z = let e = z.command_is in clash (cc)
+    settle_down left k p r c q a on h (settles {named = m} {size = size} x) z =
         let e = z.command_is in
         let same : m ≡ named = cc in
         let here : any (holds (admits named (stored o size))) p.bins ≡ true = subst (λ k. any (holds (admits k (stored o size))) p.bins ≡ true) same x in
@@ -140,9 +140,9 @@ module _ (named : ℕ) where
               earlier o named (awaits named) (its_number unsettled) h (sym (any_shelved o h (awaits named)) ∙ admits_awaits named (stored o size) p.bins here);
           gone = rw same (settles_all on (stored o size) (h.once named) (sym (any_shelved o h (admits named (stored o size))) ∙ here));
         }
-    settle_down left k p q r c a on h counts z = let e = z.command_is in clash (cc)
-    settle_down left k p q r c a on h switches z = let e = z.command_is in clash (cc)
-    settle_down left k p q r c a on h (refuses w) z = absurd (true≢false z.accepted)
+    settle_down left k p r c q a on h counts z = let e = z.command_is in clash (cc)
+    settle_down left k p r c q a on h switches z = let e = z.command_is in clash (cc)
+    settle_down left k p r c q a on h (refuses w) z = absurd (true≢false z.accepted)
 
     settled_down : (q : Production) (cs : List Command) (t : Step) (size : ℕ) → Memᴰ t (steps o q cs) → t.command ≡ Settle named size → is_refused t.outcome ≡ false
         → waiting (still_shelved o q cs) ≡ false
@@ -247,7 +247,7 @@ module _ (named : ℕ) where
         go false u e = (λ x least greatest h. true≢false (sym (as_sent q cs least greatest h unsettled) ∙ e), λ x. refl)
 
     -- The bin answered.
-    bin_when : {left n : ℕ} {p q : Packing} {c : Command} {a : Outcome} (size bin free : ℕ) → Move o left p n c a q → c ≡ Settle named size → a ≡ Settled bin free
+    bin_when : {left n : ℕ} {p : Packing} {c : Command} {q : Packing} {a : Outcome} (size bin free : ℕ) → Move o left p n c a q → c ≡ Settle named size → a ≡ Settled bin free
         → (any (holds_named named) p.bins ≡ true) × (bin_holding named p ≡ bin)
     bin_when size bin free (places h) e f = absurd (false≢true (ap shelves_item (sym e) ∙ h.shelves))
     bin_when size bin free (withdraws h) e f = clash (cc)

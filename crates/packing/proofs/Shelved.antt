@@ -104,9 +104,9 @@ module _ (o : Opening) where
       })
       (λ e. lies)
 
-  pub lying_move : (left n : ℕ) (p q : Packing) (c : Command) (a : Outcome) (on : List Shelved) → Move o left p n c a q → Lying n p on → Lying (suc n) q (shelving o n c a on)
+  pub lying_move : (left n : ℕ) (p : Packing) (c : Command) (q : Packing) (a : Outcome) (on : List Shelved) → Move o left p n c a q → Lying n p on → Lying (suc n) q (shelving o n c a on)
   unfolding placed without settling total
-  lying_move left n p q c a on (places d) h =
+  lying_move left n p c q a on (places d) h =
       let i = item_of o n c in
       let more = opened_placed o p i in
       record {
@@ -132,7 +132,7 @@ module _ (o : Opening) where
             (λ s m. absurd (Memᴰ.not-nil m)));
         once = λ named. once_more n named i (bin_for o p i) on refl (λ s m. (h.each s m).earlier) (h.once named);
       }
-  lying_move left n p q c a on (withdraws {named = named} e) h =
+  lying_move left n p c q a on (withdraws {named = named} e) h =
       record {
         weighs = λ w.
             out_weight w named p.bins ∙ h.weighs (λ i. if is_named named i then 0 else w i) ∙ sym (total_others (λ s. w s.item) (λ s. is_named named s.item) on);
@@ -140,7 +140,7 @@ module _ (o : Opening) where
             each_keep (λ s. not (is_named named s.item)) (Lies (suc n) q) on (still_there q (omega arith) (omega (arith, opened_without o named p)) h.each);
         once = λ k. omega (arith, h.once k, total_split (λ s. one_for (is_named k) s.item) (λ s. is_named named s.item) on);
       }
-  lying_move left n p q c a on (settles {named = named} {size = size} e) h =
+  lying_move left n p c q a on (settles {named = named} {size = size} e) h =
       let s = stored o size in
       record {
         weighs = λ w.
@@ -151,9 +151,9 @@ module _ (o : Opening) where
         once = λ k.
             rw (map-map (λ x. one_for (is_named k) x.item) (settled_there named s) on, same_marks named s k on) (h.once k);
       }
-  lying_move left n p q c a on counts h = lying_later n (suc n) p on (omega arith) h
-  lying_move left n p q c a on switches h = lying_later n (suc n) p on (omega arith) h
-  lying_move left n p q c a on (refuses z) h = lying_later n (suc n) p on (omega arith) h
+  lying_move left n p c q a on counts h = lying_later n (suc n) p on (omega arith) h
+  lying_move left n p c q a on switches h = lying_later n (suc n) p on (omega arith) h
+  lying_move left n p c q a on (refuses z) h = lying_later n (suc n) p on (omega arith) h
 
   pub lying_start : Lying 1 empty []
   unfolding total

@@ -85,21 +85,21 @@ module _ (named : ℕ) where
       command_is : t.command ≡ Withdraw named
       accepted : is_refused t.outcome ≡ false
 
-    take_out : (left k : ℕ) (p q : Packing) (r : Production) (c : Command) (a : Outcome) (on : List Shelved) → Lying o k p on → Move o left p k c a q
+    take_out : (left k : ℕ) (p : Packing) (r : Production) (c : Command) (q : Packing) (a : Outcome) (on : List Shelved) → Lying o k p on → Move o left p k c a q
         → TakesOut (record { number = k; production = r; command = c; before = p; outcome = a })
         → Gone o named (is_named named) its_number (λ m size i e. sym (number_stays m size i) ∙ e) k (shelving o k c a on)
-    take_out left k p q r c a on h (places x) z = absurd (false≢true (ap shelves_item (sym z.command_is) ∙ x.shelves))
-    take_out left k p q r c a on h (withdraws {named = m} x) z =
+    take_out left k p r c q a on h (places x) z = absurd (false≢true (ap shelves_item (sym z.command_is) ∙ x.shelves))
+    take_out left k p r c q a on h (withdraws {named = m} x) z =
         let e = z.command_is in
         let same : m ≡ named = cc in
         record {
           was = earlier o named (is_named named) its_number h (sym (any_shelved o h (is_named named)) ∙ subst (λ k. any (holds_named k) p.bins ≡ true) same x);
           gone = rw same (none_left (λ s. is_named named s.item) on);
         }
-    take_out left k p q r c a on h (settles x) z = let e = z.command_is in clash (cc)
-    take_out left k p q r c a on h counts z = let e = z.command_is in clash (cc)
-    take_out left k p q r c a on h switches z = let e = z.command_is in clash (cc)
-    take_out left k p q r c a on h (refuses w) z = absurd (true≢false z.accepted)
+    take_out left k p r c q a on h (settles x) z = let e = z.command_is in clash (cc)
+    take_out left k p r c q a on h counts z = let e = z.command_is in clash (cc)
+    take_out left k p r c q a on h switches z = let e = z.command_is in clash (cc)
+    take_out left k p r c q a on h (refuses w) z = absurd (true≢false z.accepted)
 
     taken_out : (q : Production) (cs : List Command) (t : Step) → Memᴰ t (steps o q cs) → t.command ≡ Withdraw named → is_refused t.outcome ≡ false
         → on_list (still_shelved o q cs) ≡ false
@@ -147,7 +147,7 @@ module _ (named : ℕ) where
     out_when q cs h = rw (any_shelved o (lying o q cs) (is_named named), is_on q cs h) refl
 
     -- The bin answered.
-    bin_when : {left n : ℕ} {p q : Packing} {c : Command} {a : Outcome} (bin free : ℕ) → Move o left p n c a q → c ≡ Withdraw named → a ≡ Withdrawn bin free
+    bin_when : {left n : ℕ} {p : Packing} {c : Command} {q : Packing} {a : Outcome} (bin free : ℕ) → Move o left p n c a q → c ≡ Withdraw named → a ≡ Withdrawn bin free
         → (any (holds_named named) p.bins ≡ true) × (bin_holding named p ≡ bin)
     bin_when bin free (places h) e f = absurd (false≢true (ap shelves_item (sym e) ∙ h.shelves))
     bin_when {p = p} bin free (withdraws {named = m} h) e f =

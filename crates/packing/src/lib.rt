@@ -1,6 +1,7 @@
 // The types that the code shares with its definitions: size classes, operands, commands, answers and refusals of document 01. The packing of
 // document 01 is its shelf, a bin its cartridge, an item its master. Each enum of refusals has one definition that gives document 01's
 // numbers (specs/Refusals.antt).
+#![tactic(auto)]
 
 // "Size classes": A above a half of the capacity, B1 above two fifths, B2 above a third, X the rest.
 #[derive(Drop)]

@@ -1,5 +1,7 @@
 // The pages of the vault sheet: the lines of one production's cartridges, written into a row of bytes. Each function that writes takes the place where
 // its text begins and answers the place behind it. A field that stands behind a space is written as a field one wider.
+#![tactic(auto)]
+
 ghost use Rattle.std.specs.Prelude.{◌≡◌, ◌+◌, ◌≤◌, ◌<◌, length};
 ghost use Rattle.ledger.specs.Rows.{places};
 ghost use Rattle.text.specs.Writing.{Wrote};

@@ -1,5 +1,7 @@
 // Picture and sound together (document 02, point 11): Algorithm PM. Both rows are sorted, smallest first, each size with its place in its row, and walked once
 // from both ends: the pictures from the smallest up, the sounds from the largest down.
+#![tactic(auto)]
+
 ghost use Rattle.std.specs.Prelude.{◌≡◌, ◌++◌, ◌%◌, ◌≤◌, ◌<◌, length, drop, replicate};
 ghost use Rattle.packing.specs.declared.RowResult.{RowResult};
 ghost use Rattle.packing.specs.Rows.{check_pair, SoundPair};

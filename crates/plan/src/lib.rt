@@ -1,4 +1,6 @@
 // The plan checker of document 01 over a lent slice of entries: each entry goes to the step of the core (crate plan_rows).
+#![tactic(auto)]
+
 ghost use Rattle.std.specs.Prelude.{◌≡◌, take};
 ghost use Rattle.packing.specs.Refusals.{plan_gives};
 ghost use Rattle.packing.specs.Plans.{check};

@@ -1,6 +1,8 @@
 // What the plan checker answers on the worked plans of document 01 and on a case of each of its refusals. Each case is a line of two answers: of
 // the core over two rows, and of the checker over the same entries. An answer is `passed`, or the refusal's number and place. The expected
 // answers of all cases are the file stdout, which the gate compares.
+#![tactic(auto)]
+
 use libc::STDOUT_FILENO;
 use packing::{Entry, PlanResult};
 use plan::{HELD, HeldPlan};

@@ -1,5 +1,7 @@
 // What the plan checker of document 01 tests before it looks at an entry: refusals 11, 12, and 16 where the two rows differ in length. A bin is
 // document 01's cartridge, an item its master. Lengths are any 64-bit numbers, and no row is needed here.
+#![tactic(auto)]
+
 ghost use Rattle.std.specs.Prelude.{◌≡◌, [], ◌∷◌};
 ghost use Rattle.packing.specs.Plans.{lengths_good, limits};
 

@@ -1,5 +1,7 @@
 // The core of the plan checker of document 01: the entries' refusals 13 to 16 in its order, each with its place, over number rows. A bin is
 // document 01's cartridge, an item its master. Nothing that the caller lends is written.
+#![tactic(auto)]
+
 ghost use Rattle.std.specs.Prelude.{◌≡◌, min, length};
 ghost use Rattle.packing.specs.Plans.{plan_of, limits, check};
 ghost use Rattle.plan_rows.specs.Loads.{Checkable, Checked};

@@ -1,4 +1,6 @@
 // The reader of command streams: the opening, what follows it, and a first pass that finds the verdict of the whole stream.
+#![tactic(auto)]
+
 ghost use Rattle.std.specs.Prelude.{◌≡◌, drop};
 ghost use Rattle.packing.specs.Limits.{most_commands};
 ghost use Rattle.packing.specs.Streams.{first_byte, opening_length, behind_opening, opening_of, commands, read};

@@ -1,4 +1,6 @@
 // "What a refusal gives": the documents' number of each refusal; and the number of a production.
+#![tactic(auto)]
+
 ghost use Rattle.std.specs.Prelude.{◌≡◌};
 ghost use Rattle.packing.specs.Productions.{production_number};
 ghost use Rattle.packing.specs.Refusals.{item_number, stream_number, plan_number, row_number};

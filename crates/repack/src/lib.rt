@@ -1,5 +1,7 @@
 // Repacking a closed shelf (document 02, point 10): First-Fit-Decreasing. The sizes of the row are sorted as words, each with its place in the row, and go
 // one after the other into the first bin with space, which a tournament tree over the bins' free space finds.
+#![tactic(auto)]
+
 ghost use Rattle.std.specs.Prelude.{◌≡◌, ◌++◌, max, length, drop};
 ghost use Rattle.packing.specs.declared.RowResult.{RowResult};
 ghost use Rattle.packing.specs.Rows.{check_row, SoundRow};

@@ -1,4 +1,6 @@
 // The text that the program `shelve` prints of a stream, in a row of bytes that the caller lends.
+#![tactic(auto)]
+
 pub mod refused;
 
 ghost use Rattle.std.specs.Prelude.{◌≡◌, ◌++◌, length, drop};

@@ -1,4 +1,6 @@
 // What the calls over rows of sizes test before they write anything: refusals 11, 12, 13 and 22 of document 02, points 10 and 11, in this order.
+#![tactic(auto)]
+
 ghost use Rattle.std.specs.Prelude.{◌≡◌, ◌+◌, ◌≤◌, length};
 ghost use Rattle.packing.specs.Rows.{check_limits, check_sizes, check_words, check_row, check_pair};
 

@@ -1,5 +1,7 @@
 // The second pass: the commands of an accepted stream, in stretches of one production and of the other. Each production has its own trees, ledger and
 // notes. The ledgers are the caller's, and record the packings after all commands when the pass is over.
+#![tactic(auto)]
+
 ghost use Rattle.turns.specs.Running.{Runnable, Ran};
 
 use ledger::{BINS, COLUMNS, NOTE_WORDS, NUMBERS};

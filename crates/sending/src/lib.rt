@@ -1,5 +1,7 @@
 // What a command sends to be shelved, of 02 and 06: the bare size that its item goes by, whether its sizes have a fault, and which; and the least that is
 // noted of the item.
+#![tactic(auto)]
+
 ghost use Rattle.std.specs.Prelude.{◌≡◌, false, ◌<◌};
 ghost use Rattle.std.proofs.Math.Option.{some};
 ghost use Rattle.packing.specs.declared.Command.TheVariants.{Reserve};

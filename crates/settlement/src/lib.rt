@@ -1,5 +1,7 @@
 // "Sizes known within a range": command 07 tells the size of an item that an 06 shelved. The note of that command's number tells where the item lies and what
 // it can measure, so there is no search and no walk: one row of the ledger is written, one note, and the row is shown in the trees. It takes no look.
+#![tactic(auto)]
+
 ghost use Rattle.std.specs.Prelude.{◌≡◌};
 ghost use Rattle.packing.specs.declared.Command.TheVariants.{Settle};
 ghost use Rattle.packing.specs.Bins.{stored};

@@ -1,4 +1,6 @@
 // The text that the program `vault_sheet` prints of a stream, in a row of bytes that the caller lends.
+#![tactic(auto)]
+
 ghost use Rattle.std.specs.Prelude.{◌≡◌, ◌++◌, length, drop};
 ghost use Rattle.sheet.specs.Sheet.{sheet};
 ghost use Rattle.sheet.specs.Writing.{Sheetable, Sheeted};

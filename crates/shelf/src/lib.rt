@@ -1,4 +1,6 @@
 // The public calls of the shelf, each with its whole contract: the result and every lent word, for every input.
+#![tactic(auto)]
+
 pub mod exports;
 
 ghost use Rattle.std.specs.Prelude.{◌≡◌, ◌↔◌, ◌++◌, length, drop};

@@ -1,5 +1,7 @@
 // The program `shelve`: it reads a stream from standard input, and prints what the crate report makes of it. No contract can speak of input and
 // output, so all the work is in `report::print`.
+#![tactic(auto)]
+
 use libc::{STDIN_FILENO, STDOUT_FILENO};
 
 // It reads until the input ends, a read fails, or there is one byte more than the longest stream; a read that fails counts as the end of the

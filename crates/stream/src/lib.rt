@@ -1,4 +1,6 @@
 // Command streams: the reader finds the verdict of the whole stream, then the run answers its commands.
+#![tactic(auto)]
+
 ghost use Rattle.std.specs.Prelude.{◌≡◌, replicate};
 ghost use Rattle.packing.specs.Refusals.{word, free_units};
 ghost use Rattle.packing.specs.Streams.{words_lent, verdict};

@@ -10,6 +10,8 @@
 //   S  its sheet is printed
 //   E  a number of four figures: of a long text of answers, its length and so many of its last bytes are printed
 // The digits of any other line are added to the stream, two in base sixteen for each byte; what is no digit is passed over.
+#![tactic(auto)]
+
 ghost use Rattle.std.specs.Prelude.{◌≤◌, ◌<◌, length};
 
 use libc::{STDIN_FILENO, STDOUT_FILENO};

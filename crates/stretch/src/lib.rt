@@ -1,5 +1,7 @@
 // A stretch of the second pass: the commands of one production that follow each other, answered one after another. What follows a command is handed on as
 // a part of the stream. The production's trees, ledger and notes are lent; of the other production nothing is known but what it leaves of the stock.
+#![tactic(auto)]
+
 ghost use Rattle.std.specs.Prelude.{◌≡◌};
 ghost use Rattle.packing.specs.Productions.{is_same};
 ghost use Rattle.packing.specs.Shelves.{belonging};

@@ -1,4 +1,6 @@
 // Lines of text, written into a row of bytes. Each function takes the place where its text begins and answers the place behind it.
+#![tactic(auto)]
+
 ghost use Rattle.std.specs.Prelude.{◌∷◌, []};
 ghost use Rattle.text.specs.Lines.{decimal, figure, figures, line};
 ghost use Rattle.text.specs.Writing.{Room, Wrote};

@@ -1,5 +1,7 @@
 // Tournament trees in one row of words. A tree stands at a base: word base + 1 is its root, node n has the children 2n and 2n + 1, and its
 // leaves, one a place, are the nodes from the number of its places up. Each node holds the larger of its two children.
+#![tactic(auto)]
+
 pub mod looks;
 
 ghost use Rattle.std.specs.Prelude.{◌≡◌, ◌≤◌, ◌<◌, get_or};

@@ -1,5 +1,7 @@
 // The turns that the two productions take in the second pass, behind the first stretch of production 0; the counters at the opening and after all commands; and
 // what a production is answered by beside the other.
+#![tactic(auto)]
+
 ghost use Rattle.std.specs.Prelude.{◌≡◌, ◌≤◌};
 ghost use Rattle.engine.specs.Store.{store};
 ghost use Rattle.turns.specs.Turns.{Turnable, Turned};

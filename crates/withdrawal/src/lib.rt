@@ -1,5 +1,7 @@
 // "Withdrawn masters": command 04 takes out the item that the command of another number shelved. The note of that number tells where it lies, so there is
 // no search and no walk: one row of the ledger is written, one note, and the row is shown in the trees. It takes no look.
+#![tactic(auto)]
+
 ghost use Rattle.packing.specs.declared.Command.TheVariants.{Withdraw};
 ghost use Rattle.engine.specs.Store.{store, Sound};
 ghost use Rattle.engine.specs.Done.{Done};

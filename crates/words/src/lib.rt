@@ -1,4 +1,6 @@
 // The words of an answer in both rows, and the answer that they stand for.
+#![tactic(auto)]
+
 ghost use Rattle.std.specs.Prelude.{◌≡◌, ◌-◌};
 ghost use Rattle.packing.specs.declared.Outcome.TheVariants.{Refused};
 ghost use Rattle.packing.specs.Prelude.{◌<?◌, if◌then◌else◌};
