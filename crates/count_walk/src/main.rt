@@ -15,7 +15,7 @@ use packing::{StreamResult, Tally};
 use report::refused::MOST_BYTES;
 
 // A count in each production.
-#[derive(Drop)]
+#[derive(Clone, Copy)]
 struct Tallies {
     first: Tally,
     second: Tally,
