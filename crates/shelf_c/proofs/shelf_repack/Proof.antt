@@ -8,8 +8,8 @@ use Rattle.packing.proofs.Given.{repack_gives_back}
 use Rattle.decreasing.specs.Repack.{repack_result}
 use Rattle.codes.specs.Codes.{repack_code, RepackFits}
 use Rattle.codes.proofs.Counts.{repack_fits}
-use Rattle.shelf.proofs.exports.shelf_repack.Statement.{statement}
-use Rattle.shelf.proofs.exports.shelf_repack.Tie as tie
+use Rattle.shelf_c.proofs.shelf_repack.Statement.{statement}
+use Rattle.shelf_c.proofs.shelf_repack.Tie as tie
 
 -- What is due, and that it is what `repack` returned.
 abbrev due : tie.After-repack → RepackResult

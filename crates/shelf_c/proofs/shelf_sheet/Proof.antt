@@ -1,7 +1,7 @@
 -- `shelf_sheet` meets its contract: it is what `print_sheet` ensures.
 use borrow.Author.Rules.{rules}
-use Rattle.shelf.proofs.exports.shelf_sheet.Statement.{statement}
-use Rattle.shelf.proofs.exports.shelf_sheet.Tie as tie
+use Rattle.shelf_c.proofs.shelf_sheet.Statement.{statement}
+use Rattle.shelf_c.proofs.shelf_sheet.Tie as tie
 
 print-sheet-requires : tie.Need-print-sheet-requires
 print-sheet-requires c κs = search rules

@@ -7,8 +7,8 @@ use borrow.Author.Rules.{rules}
 use Rattle.codes.specs.Codes.{plan_code, PlaceFits}
 use Rattle.codes.proofs.Places.{place_fits}
 use Rattle.codes.proofs.Back.{plan_code_back}
-use Rattle.shelf.proofs.exports.shelf_check_plan.Statement.{statement}
-use Rattle.shelf.proofs.exports.shelf_check_plan.Tie as tie
+use Rattle.shelf_c.proofs.shelf_check_plan.Statement.{statement}
+use Rattle.shelf_c.proofs.shelf_check_plan.Tie as tie
 
 -- What is due, and that it is what `check_rows` returned.
 abbrev due : tie.After-check-rows → PlanResult

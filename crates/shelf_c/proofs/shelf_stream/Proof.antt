@@ -8,8 +8,8 @@ use Rattle.packing.specs.Run.{result}
 use Rattle.packing.proofs.Given.{stream_gives_back}
 use Rattle.codes.specs.Codes.{stream_code, FiguresFit}
 use Rattle.codes.proofs.Figures.{figures_fit}
-use Rattle.shelf.proofs.exports.shelf_stream.Statement.{statement}
-use Rattle.shelf.proofs.exports.shelf_stream.Tie as tie
+use Rattle.shelf_c.proofs.shelf_stream.Statement.{statement}
+use Rattle.shelf_c.proofs.shelf_stream.Tie as tie
 
 abbrev start : tie.After-shelve → tie.Start
 start c = c.before.before.before.before.before.before

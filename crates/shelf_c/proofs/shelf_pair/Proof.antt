@@ -8,8 +8,8 @@ use Rattle.packing.proofs.Given.{pair_gives_back}
 use Rattle.matching.specs.Pairs.{pair_result}
 use Rattle.codes.specs.Codes.{pair_code, PairFits}
 use Rattle.codes.proofs.Counts.{pair_fits}
-use Rattle.shelf.proofs.exports.shelf_pair.Statement.{statement}
-use Rattle.shelf.proofs.exports.shelf_pair.Tie as tie
+use Rattle.shelf_c.proofs.shelf_pair.Statement.{statement}
+use Rattle.shelf_c.proofs.shelf_pair.Tie as tie
 
 -- What is due, and that it is what `pair` returned.
 abbrev due : tie.After-pair → PairResult
