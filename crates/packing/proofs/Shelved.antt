@@ -1,6 +1,6 @@
 -- The items still shelved, by the trace: every weight of them is that of the bins, each has an earlier number, a size and an opened bin, and a step that
 -- shelved it there.
-use Prim.Native.Nat.{ℕ, suc, ◌+◌, ◌≤◌, ◌<◌}
+use Prim.Native.Nat.{ℕ, suc, ◌≤◌, ◌<◌}
 use mathlib.Core.Path.{◌≡◌, refl, sym, ap, ◌∙◌}
 use mathlib.Core.Bool.{Bool, true, false, not, ◌||◌, true≢false, false≢true}
 use mathlib.Core.List.Memᴰ

@@ -1,6 +1,6 @@
 -- Refusals 8, 19, 9 and 10 of an item, each exactly under its condition: 10 when no permitted bin of the
 -- production has space and both productions together have opened the whole stock.
-use Prim.Native.Nat.{ℕ, suc, ◌+◌, ◌-◌, ◌≤◌, ◌<◌}
+use Prim.Native.Nat.{ℕ, suc, ◌+◌, ◌≤◌, ◌<◌}
 use mathlib.Core.Path.{◌≡◌, refl, ap, ◌∙◌}
 use mathlib.Core.Bool.{Bool, true, false, ◌&&◌, false≢true}
 use mathlib.Core.Option.{none, some}
