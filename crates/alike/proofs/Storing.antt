@@ -10,7 +10,7 @@ use borrow.Author.Tests.{ne_eqb, lt-ltb, le-ltb}
 use lib.Dec.{ltb}
 use Rattle.packing.specs.declared.{Opening.Opening, Production.Production, Command.Command, Outcome.Outcome, ItemReason.ItemReason}
 use Rattle.packing.specs.declared.Command.TheVariants.{Shelve, Count, Withdraw, Switch, Reserve, Settle}
-use Rattle.packing.specs.Prelude.{if◌then◌else◌}
+use Rattle.std.specs.Prelude.{if◌then◌else◌}
 use Rattle.packing.specs.Productions.{is_same}
 use Rattle.packing.specs.Refusals.{is_refused}
 use Rattle.packing.specs.Bins.{Item, Packing, stored}
@@ -137,7 +137,7 @@ module _ (o : Opening) where
       ∙ ap (put_back s.current (next o (stock_left o s) (own s) n c) s) (same_belonging s.current c)
 
   -- What it comes to makes the same of the items on the shelf, and of those accepted.
-  same_shelving : {left n : ℕ} {p q : Packing} {c : Command} {a : Outcome} → Move o left p n c a q → (on : List Shelved)
+  same_shelving : {left n : ℕ} {p : Packing} {c : Command} {q : Packing} {a : Outcome} → Move o left p n c a q → (on : List Shelved)
       → shelving o₀ n (by_stored o c) a on ≡ shelving o n c a on
   same_shelving {n = n} (places {c = c} h) on = rw (same_item n c h.shelves h.was_placed.faultless)
   same_shelving (withdraws e) on = refl
@@ -146,7 +146,7 @@ module _ (o : Opening) where
   same_shelving switches on = refl
   same_shelving (refuses z) on = refl
 
-  same_placement : {left n : ℕ} {p q : Packing} {c : Command} {a : Outcome} → Move o left p n c a q → placement o₀ (by_stored o c) a ≡ placement o c a
+  same_placement : {left n : ℕ} {p : Packing} {c : Command} {q : Packing} {a : Outcome} → Move o left p n c a q → placement o₀ (by_stored o c) a ≡ placement o c a
   same_placement {n = n} (places {c = c} h) = rw (ap (λ (i : Item). i.size) (same_item n c h.shelves h.was_placed.faultless))
   same_placement (withdraws e) = refl
   same_placement (settles e) = refl

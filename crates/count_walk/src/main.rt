@@ -15,7 +15,7 @@ use report::refused::MOST_BYTES;
 use std::io::{self, Read};
 
 // A count in each production.
-#[derive(Drop)]
+#[derive(Clone, Copy)]
 struct Tallies {
     first: Tally,
     second: Tally,

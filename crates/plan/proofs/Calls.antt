@@ -1,5 +1,6 @@
 -- What the walks by hand share beside the locals: a call of a function with a contract, numbers that are passed, a value in memory, two clauses.
-use Rattle.plan.proofs.Logic.{◌≡◌, refl, subst, ℕ, ◌<◌, ◌^◌, Bool, not, List, [], ◌∷◌, T, Ura, full_share, Name, Place, Operand, RValue, Body, skip, seq, cond}
+use Rattle.std.specs.Prelude.{◌≡◌, ◌<◌, ◌^◌, ◌∷◌}
+use Rattle.plan.proofs.Logic.{refl, subst, ℕ, Bool, not, List, [], T, Ura, full_share, Name, Place, Operand, RValue, Body, skip, seq, cond}
 use Rattle.plan.proofs.Logic.{exit, call, Width, int_big, Val, Fits, vint, vbool, vunit, bits, SProp, ent, sep, emp, id⊢, via, fst∗, comm∗, mono_l, emp∗}
 use Rattle.plan.proofs.Logic.{guard_i, Fml, fsep, fat, Env, Calls, Loops, Tables, exits, sem, fact, fact_i, fact_mono, fm_of, Item, ‵, raw}
 use Rattle.plan.proofs.Logic.{mean, ⋆, cut, ◌⊛◌, some, later, Post, post, Goal, prop, runs, lands, Seq, Step, step, ◌$◌, ◌∵◌, !, qed, move, drop, use0, use1}

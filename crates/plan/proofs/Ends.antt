@@ -1,5 +1,6 @@
 -- Laws on lists and numbers that the walks use.
-use Rattle.plan.proofs.Logic.{◌≡◌, refl, sym, ◌∙◌, ℕ, min, ◌<◌, dec_le, arith, List, length, take, take_all}
+use Rattle.std.specs.Prelude.{◌≡◌, ◌<◌}
+use Rattle.plan.proofs.Logic.{refl, sym, ◌∙◌, ℕ, min, dec_le, arith, List, length, take, take_all}
 use Rattle.packing.specs.declared.{PlanResult.PlanResult}
 use Rattle.plan.specs.Ends.{rows_to_walk}
 

@@ -1,7 +1,8 @@
 -- The locals of a function that is walked by hand, as one entry of the context: what each of them holds, by its number. So a walk names locals by
 -- number, not by where they stand; a store asks only that the local's memory is there; and all of them are allocated, and freed, in one step.
 use Rattle.packing.proofs.Tests.{clash}
-use Rattle.plan.proofs.Logic.{◌≡◌, refl, sym, ap, subst, ℕ, zero, suc, Bool, true, false, ◌&&◌, List, [], ◌∷◌, map, T, get_or, Ura, full_share, Ty, place}
+use Rattle.std.specs.Prelude.{◌≡◌, ◌&&◌, ◌∷◌}
+use Rattle.plan.proofs.Logic.{refl, sym, ap, subst, ℕ, zero, suc, Bool, true, false, List, [], map, T, get_or, Ura, full_share, Ty, place}
 use Rattle.plan.proofs.Logic.{copy, RValue, Body, seq, assign, Local, local, Val, WT, has_ty, SProp, ent, sep, wand, all, emp, id⊢, via, assoc∗, mono_l, mono_r}
 use Rattle.plan.proofs.Logic.{mono∗, snd∗, apply∗, all_e, guard_i, fat, froom, fdies, Env, Calls, Loops, no_local, release, Item, ‵, raw}
 use Rattle.plan.proofs.Logic.{given, mean, ⋆, nth, del, put, pull, fill, pop, ◌⊛◌, Post, Goal, runs, lands, allocs, frees, aim, Seq, Step, step, ◌$◌, ◌∵◌, ! }

@@ -1,5 +1,6 @@
 -- The machine's values of the two types that the walks meet: results and entries.
-use Rattle.plan.proofs.Logic.{[], ◌∷◌, T, Ura, Val, WT, has_ty, Is, Makes, Tells, Copy}
+use Rattle.std.specs.Prelude.{◌∷◌}
+use Rattle.plan.proofs.Logic.{[], T, Ura, Val, WT, has_ty, Is, Makes, Tells, Copy}
 use denote.Struct.Laws as LL
 use denote.Enum.Laws as EL
 use Rattle.packing.specs.declared.{Entry.Entry, PlanResult.PlanResult}

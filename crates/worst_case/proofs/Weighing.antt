@@ -10,7 +10,8 @@ use borrow.Author.Tests.{eqb-true, eq-eqb}
 use lib.Dec.{eqb}
 use lib.ListN.{length}
 use Rattle.packing.specs.declared.{Entry.Entry, PlanResult.PlanResult}
-use Rattle.packing.specs.Prelude.{if◌then◌else◌, total, any}
+use Rattle.std.specs.Prelude.{if◌then◌else◌}
+use Rattle.packing.specs.Prelude.{total, any}
 use Rattle.packing.specs.Plans.{on_bin, check}
 use Rattle.packing.specs.Compared.{used}
 use Rattle.worst_case.proofs.Lists.{weigh, sum}
@@ -84,10 +85,10 @@ module _ (w : ℕ → ℕ) where
   on_grows [] e es = omega arith
   on_grows (n ∷ ns) e es = omega (arith, part_grows n e es, on_grows ns e es)
 
-  on_adds : (ns : List ℕ) (e : Entry) (es : List Entry) → Memᴰ e.bin ns → w e.size + on ns es ≤ on ns (e ∷ es)
+  on_adds : (e : Entry) (ns : List ℕ) (es : List Entry) → Memᴰ e.bin ns → w e.size + on ns es ≤ on ns (e ∷ es)
   unfolding on
-  on_adds ns e es (Memᴰ.head {x = n} {xs = ns'} h) = omega (arith, part_adds n e es h, on_grows ns' e es)
-  on_adds ns e es (Memᴰ.tail {x = n} {xs = ns'} m) = omega (arith, part_grows n e es, on_adds ns' e es m)
+  on_adds e ns es (Memᴰ.head {x = n} {xs = ns'} h) = omega (arith, part_adds n e es h, on_grows ns' e es)
+  on_adds e ns es (Memᴰ.tail {x = n} {xs = ns'} m) = omega (arith, part_grows n e es, on_adds e ns' es m)
 
   -- Every entry lies on one of the bins.
   on_all : (es : List Entry) → weigh w (map (λ e. e.size) es) ≤ on (used_bins es) es
@@ -97,7 +98,7 @@ module _ (w : ℕ → ℕ) where
     where
       go : (a : Bool) → named e.bin es ≡ a → weigh w (map (λ e. e.size) es) ≤ on (used_bins es) es
           → w e.size + weigh w (map (λ e. e.size) es) ≤ on (if a then used_bins es else e.bin ∷ used_bins es) (e ∷ es)
-      go true p h = omega (arith, on_adds (used_bins es) e es (used_bins_have es e.bin p))
+      go true p h = omega (arith, on_adds e (used_bins es) es (used_bins_have es e.bin p))
       go false p h = omega (arith, part_adds e.bin e es refl, on_grows (used_bins es) e es)
 
   on_most : (most : ℕ) (es : List Entry) → ((n : ℕ) → weigh w (part n es) ≤ most) → (ns : List ℕ) → on ns es ≤ most * length ns

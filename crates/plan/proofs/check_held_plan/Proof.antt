@@ -4,7 +4,8 @@
 use types.Logic.{Logic}
 use denote.Slice.{shr_slice_vals}
 use denote.Ref.{Bor}
-use Rattle.plan.proofs.Logic.{◌≡◌, refl, sym, ◌∙◌, ap, ℕ, min, ◌<◌, ◌^◌, arith, List, [], ◌∷◌, map, lit<, length, take, length-map, length-take, Ura}
+use Rattle.std.specs.Prelude.{◌≡◌, ◌<◌, ◌^◌, ◌∷◌}
+use Rattle.plan.proofs.Logic.{refl, sym, ◌∙◌, ap, ℕ, min, arith, List, [], map, lit<, length, take, length-map, length-take, Ura}
 use Rattle.plan.proofs.Logic.{full_share, named, erased, w32, w64, Val, vint, SProp, ent, id⊢, emp, via, fst∗, Lft, Share, GName, Fml, ftrue, froom, flft}
 use Rattle.plan.proofs.Logic.{flent, Memory, Routine, WpFn, Tables, Fun, fact, tables, tables_of, Item, ‵, raw, ◌⊛◌, ⋆, some}
 use Rattle.plan.proofs.Logic.{later, ◌$◌, ◌∵◌, !, qed, by, move, keep, drop, use1, use2, split, join, pick, rewrite, fsplit, fjoin, feq_i, suffices, frame}

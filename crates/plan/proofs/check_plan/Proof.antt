@@ -5,7 +5,8 @@
 use types.Logic.{Logic}
 use denote.Slice.{shr_slice_vals}
 use denote.Ref.{MutBor}
-use Rattle.plan.proofs.Logic.{◌≡◌, refl, sym, ap, ℕ, zero, suc, ◌+◌, ◌-◌, ◌*◌, ◌<◌, ◌^◌, arith, not, WellFounded, InvImage·wf, List, [], ◌∷◌, Nat·lt-wfRel, T}
+use Rattle.std.specs.Prelude.{◌≡◌, ◌+◌, ◌-◌, ◌*◌, ◌<◌, ◌^◌, ◌∷◌}
+use Rattle.plan.proofs.Logic.{refl, sym, ap, ℕ, zero, suc, arith, not, WellFounded, InvImage·wf, List, [], Nat·lt-wfRel, T}
 use Rattle.plan.proofs.Logic.{ltb, ltb→lt, nltb→le, lit<, length, get_or, replicate, length-replicate, Ura, full_share, named, w32, w64, Val, vint, vptr, SProp}
 use Rattle.plan.proofs.Logic.{ent, id⊢, emp, via, fst∗, Lft, GName, Share, Fml, ftrue, froom, flft, flent, fshr_bor, Memory, Routine, Out, Env}
 use Rattle.plan.proofs.Logic.{after_seq, after_block, after_turn, Wp, WpFn, at_return, Tables, Fun, tables, tables_of, Item, ‵, raw, ◌⊛◌, ⋆}
