@@ -11,7 +11,7 @@ use packing::PerClass;
 // The bins opened, the B2 items accepted since the last m-th, and the items on the shelf; and the tree that is searched for the next B2, which follows
 // from the phase and is kept so that no item has to ask for it. (Of one width, so that nothing lies between them, and too wide to be packed into one
 // register: the compiler then keeps each in its own.)
-#[derive(Drop)]
+#[derive(Clone, Copy)]
 pub struct Counters {
     pub opened: u32,
     pub phase: u32,

@@ -9,13 +9,13 @@ ghost use Rattle.packing.specs.Streams.{verdict};
 ghost use Rattle.count_walk.specs.After.{after};
 
 use ledger::{BINS, COLUMNS};
-use libc::{STDIN_FILENO, STDOUT_FILENO};
 use limits::MOST_COMMANDS;
 use packing::{StreamResult, Tally};
 use report::refused::MOST_BYTES;
+use std::io::{self, Read};
 
 // A count in each production.
-#[derive(Drop)]
+#[derive(Clone, Copy)]
 struct Tallies {
     first: Tally,
     second: Tally,
@@ -55,23 +55,23 @@ fn tally_after(stream: &[u8]) -> Tallies
 }
 
 // Prints the two figures of a count in an accepted stream: it reads a place at least.
-fn show(tally: Tally) {
+fn show(rt: &impl Print, tally: Tally) -> io::Result<()> {
     if tally.read == 0 {
-        return;
+        return Ok(());
     }
-    io::print_decimal(STDOUT_FILENO, tally.figure as u64);
-    io::write_all(STDOUT_FILENO, b" ");
-    io::print_decimal(STDOUT_FILENO, tally.read as u64);
-    io::write_all(STDOUT_FILENO, b"\n");
+    println!(rt; "{} {}", tally.figure, tally.read)
 }
 
 // It reads as `shelve` does.
-fn main() {
-    let mut stream = [0u8; MOST_BYTES + 1];
-    let read = io::read_full(STDIN_FILENO, &mut stream);
-    if read <= MOST_BYTES {
-        let tallies = tally_after(&stream[..read]);
-        show(tallies.first);
-        show(tallies.second);
+fn main(rt: HostRuntime) -> io::Result<()> {
+    let mut stream = Vec::new(rt.alloc());
+    rt.stdin()
+        .take(MOST_BYTES as u64 + 1)
+        .read_to_end(&mut stream)?;
+    if stream.len() <= MOST_BYTES {
+        let tallies = tally_after(&stream);
+        show(&rt, tallies.first)?;
+        show(&rt, tallies.second)?;
     }
+    Ok(())
 }

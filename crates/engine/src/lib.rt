@@ -18,7 +18,7 @@ use tournament::looks::Looks;
 use tournament::{Found, ROW_WORDS, STRIDE, Shape, looks};
 
 // What the commands of a production are answered by: the opening, the shape of the trees, and what is left of the stock for the production.
-#[derive(Drop)]
+#[derive(Clone, Copy)]
 pub struct Terms {
     pub opening: Opening,
     pub shape: Shape,
@@ -26,7 +26,7 @@ pub struct Terms {
 }
 
 // What a command comes to, the counters after it, and the looks that it took.
-#[derive(Drop)]
+#[derive(Clone, Copy)]
 pub struct Answered {
     pub answer: Answer,
     pub next: Counters,
@@ -34,7 +34,7 @@ pub struct Answered {
 }
 
 // Where an item goes: the place of its bin, the space left free there, and the bins opened then.
-#[derive(Drop)]
+#[derive(Clone, Copy)]
 struct Spot {
     place: usize,
     free: u32,
@@ -42,14 +42,14 @@ struct Spot {
 }
 
 // What the search has for an item: a spot, or none, as what is left of the stock for its production is all opened.
-#[derive(Drop)]
+#[derive(Clone, Copy)]
 enum Offer {
     Here(Spot),
     Spent,
 }
 
 // That, and the looks of the search.
-#[derive(Drop)]
+#[derive(Clone, Copy)]
 struct Offered {
     offer: Offer,
     looks: Looks,

@@ -47,14 +47,14 @@ const WIDTHS: [WidthRow; ROWS] = [
 ];
 
 // The command at the front of a stream, with its operand width; or its fault.
-#[derive(Drop)]
+#[derive(Clone, Copy)]
 pub enum Front {
     Whole(Command, usize),
     Faulty(StreamReason),
 }
 
 // A command and its operand width.
-#[derive(Drop)]
+#[derive(Clone, Copy)]
 pub struct WholeCommand {
     pub command: Command,
     pub width: usize,

@@ -4,7 +4,7 @@
 #![tactic(auto)]
 
 // "Size classes": A above a half of the capacity, B1 above two fifths, B2 above a third, X the rest.
-#[derive(Drop)]
+#[derive(Clone, Copy)]
 pub enum SizeClass {
     A,
     B1,
@@ -13,7 +13,7 @@ pub enum SizeClass {
 }
 
 // A number for each size class.
-#[derive(Drop)]
+#[derive(Clone, Copy)]
 pub struct PerClass {
     pub a: usize,
     pub b1: usize,
@@ -22,7 +22,7 @@ pub struct PerClass {
 }
 
 // The operands of the opening; the trailer, which is written after each item, is 0 where an opening has none.
-#[derive(Drop)]
+#[derive(Clone, Copy)]
 pub struct Opening {
     pub capacity: u32,
     pub stock: u16,
@@ -31,7 +31,7 @@ pub struct Opening {
 }
 
 // The two productions, which draw on one stock: number 0, in which a stream starts, and number 1.
-#[derive(Drop)]
+#[derive(Clone, Copy)]
 pub enum Production {
     First,
     Second,
@@ -40,7 +40,7 @@ pub enum Production {
 // A command after the opening: 02, shelve an item of this bare size; 03, how many bins are opened; 04, take out the item that the command of this
 // number shelved; 05, the commands after it belong to this production; 06, shelve an item whose bare size is known to be within this range; 07, the item
 // that the command of this number, an 06, shelved has this bare size.
-#[derive(Drop)]
+#[derive(Clone, Copy)]
 pub enum Command {
     Shelve(u32),
     Count,
@@ -51,21 +51,21 @@ pub enum Command {
 }
 
 // A row of the table that gives each command byte its operand width.
-#[derive(Drop)]
+#[derive(Clone, Copy)]
 pub struct WidthRow {
     pub opcode: u8,
     pub width: usize,
 }
 
 // The operand width of a byte, if it is in the table.
-#[derive(Drop)]
+#[derive(Clone, Copy)]
 pub enum Width {
     Known(usize),
     Unknown,
 }
 
 // Why an item is refused: 8 or in its place 19, 9, 10; why none is taken out: 17; and why none is settled: 20, 21.
-#[derive(Drop)]
+#[derive(Clone, Copy)]
 pub enum ItemReason {
     SizeZero,
     AboveCapacity,
@@ -79,7 +79,7 @@ pub enum ItemReason {
 // What a command comes to: the bin of its item and the units that the item leaves free there, the number of bins opened, the bin that the item named
 // has left and the units that are then free there, the production that the commands after it belong to, the bin of the item that is settled and the units
 // that are then free there, or a refusal.
-#[derive(Drop)]
+#[derive(Clone, Copy)]
 pub enum Outcome {
     Placed { bin: u16, free: u32 },
     Counted(u16),
@@ -90,21 +90,21 @@ pub enum Outcome {
 }
 
 // "An answer joins the command's number with placed, counted or refused", or withdrawn, switched or settled.
-#[derive(Drop)]
+#[derive(Clone, Copy)]
 pub struct Answer {
     pub number: usize,
     pub outcome: Outcome,
 }
 
 // What the walk of a count hands back: the figure, which is the number of bins opened, and the places of the stock that it read to tell.
-#[derive(Drop)]
+#[derive(Clone, Copy)]
 pub struct Tally {
     pub figure: u16,
     pub read: u16,
 }
 
 // Why a whole stream is refused: 1 to 7, and 18.
-#[derive(Drop)]
+#[derive(Clone, Copy)]
 pub enum StreamReason {
     NoOpening,
     UnknownOpcode,
@@ -117,7 +117,7 @@ pub enum StreamReason {
 }
 
 // What the stream call returns: items still shelved and bins opened, of both productions, and the largest looks of a command; or a refusal.
-#[derive(Drop)]
+#[derive(Clone, Copy)]
 pub enum StreamResult {
     Accepted {
         items: usize,
@@ -131,14 +131,14 @@ pub enum StreamResult {
 }
 
 // An entry of a plan: an item's size and its bin's number.
-#[derive(Drop)]
+#[derive(Clone, Copy)]
 pub struct Entry {
     pub size: u32,
     pub bin: u32,
 }
 
 // Why a plan is refused: 11 to 16.
-#[derive(Drop)]
+#[derive(Clone, Copy)]
 pub enum PlanReason {
     CapacityOutside,
     TooLong,
@@ -149,14 +149,14 @@ pub enum PlanReason {
 }
 
 // What the plan checker returns.
-#[derive(Drop)]
+#[derive(Clone, Copy)]
 pub enum PlanResult {
     Passed,
     Refused { reason: PlanReason, place: usize },
 }
 
 // Why a call over a row of sizes is refused: 11 to 13, as a plan is, and 22.
-#[derive(Drop)]
+#[derive(Clone, Copy)]
 pub enum RowReason {
     CapacityOutside,
     TooLong,
@@ -165,21 +165,21 @@ pub enum RowReason {
 }
 
 // What the checks of such a call come to.
-#[derive(Drop)]
+#[derive(Clone, Copy)]
 pub enum RowResult {
     Sound,
     Refused { reason: RowReason, place: usize },
 }
 
 // What a repacking returns: the bins that it takes, and whether the move saves nothing; or a refusal.
-#[derive(Drop)]
+#[derive(Clone, Copy)]
 pub enum RepackResult {
     Repacked { count: usize, saves_nothing: bool },
     Refused { reason: RowReason, place: usize },
 }
 
 // What a pairing of two rows returns: the number of pairs; or a refusal.
-#[derive(Drop)]
+#[derive(Clone, Copy)]
 pub enum PairResult {
     Paired(usize),
     Refused { reason: RowReason, place: usize },

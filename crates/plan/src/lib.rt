@@ -43,7 +43,7 @@ pub fn check_plan(plan: &[Entry], items: &[u32], capacity: u32, k: u32) -> PlanR
 pub const HELD: usize = MOST_ROWS + 1;
 
 // A plan by value: the first len of these entries.
-#[derive(Drop)]
+#[derive(Clone, Copy)]
 pub struct HeldPlan {
     pub entries: [Entry; HELD],
     pub len: usize,

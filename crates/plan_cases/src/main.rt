@@ -3,20 +3,16 @@
 // answers of all cases are the file stdout, which the gate compares.
 #![tactic(auto)]
 
-use libc::STDOUT_FILENO;
 use packing::{Entry, PlanResult};
 use plan::{HELD, HeldPlan};
+use std::io;
 
-fn show(answer: PlanResult) {
+fn show(rt: &impl Print, answer: PlanResult) -> io::Result<()> {
     match answer {
-        PlanResult::Passed => {
-            io::write_all(STDOUT_FILENO, b"passed");
-        }
+        PlanResult::Passed => print!(rt; "passed"),
         PlanResult::Refused { reason, place } => {
             let number = refusals::plan_number(reason);
-            io::print_decimal(STDOUT_FILENO, number as u64);
-            io::write_all(STDOUT_FILENO, b" at ");
-            io::print_decimal(STDOUT_FILENO, place as u64);
+            print!(rt; "{number} at {place}")
         }
     }
 }
@@ -40,14 +36,21 @@ fn held(sizes: &[u32], bins: &[u32]) -> HeldPlan {
     HeldPlan { entries, len: i }
 }
 
-fn both(sizes: &[u32], bins: &[u32], items: &[u32], capacity: u32, k: u32) {
+fn both(
+    rt: &impl Print,
+    sizes: &[u32],
+    bins: &[u32],
+    items: &[u32],
+    capacity: u32,
+    k: u32,
+) -> io::Result<()> {
     let of_rows = plan_rows::check_rows(sizes, bins, items, capacity, k);
-    show(of_rows);
-    io::write_all(STDOUT_FILENO, b", ");
+    show(rt, of_rows)?;
+    print!(rt; ", ")?;
     let entries = held(sizes, bins);
     let of_entries = plan::check_held_plan(entries, items, capacity, k);
-    show(of_entries);
-    io::write_all(STDOUT_FILENO, b"\n");
+    show(rt, of_entries)?;
+    println!(rt)
 }
 
 // The sizes of the list after Yao's Theorem 1, and the cartridges of a plan of it with k 7.
@@ -61,57 +64,57 @@ const SEVEN: [u32; 21] = [
 ];
 
 // The worked plans.
-fn worked() {
-    both(&[30, 30], &[1, 1], &[30, 30], 60, 1);
-    both(&[30, 31], &[1, 1], &[30, 31], 60, 1);
-    both(&[], &[], &[], 60, 0);
+fn worked(rt: &impl Print) -> io::Result<()> {
+    both(rt, &[30, 30], &[1, 1], &[30, 30], 60, 1)?;
+    both(rt, &[30, 31], &[1, 1], &[30, 31], 60, 1)?;
+    both(rt, &[], &[], &[], 60, 0)?;
     let sizes = THEOREM_1;
     let bins = SEVEN;
-    both(&sizes, &bins, &sizes, 262144, 7);
-    both(&sizes, &bins, &sizes, 262144, 6);
+    both(rt, &sizes, &bins, &sizes, 262144, 7)?;
+    both(rt, &sizes, &bins, &sizes, 262144, 6)
 }
 
 // One case at each limit, and one past it.
-fn limits() {
+fn limits(rt: &impl Print) -> io::Result<()> {
     // 11
-    both(&[1], &[1], &[1], 0, 1);
-    both(&[1], &[1], &[1], 1, 1);
-    both(&[1], &[1], &[1], 16777216, 1);
-    both(&[1], &[1], &[1], 16777217, 4097);
+    both(rt, &[1], &[1], &[1], 0, 1)?;
+    both(rt, &[1], &[1], &[1], 1, 1)?;
+    both(rt, &[1], &[1], &[1], 16777216, 1)?;
+    both(rt, &[1], &[1], &[1], 16777217, 4097)?;
     // 12: k, the plan, the items
-    both(&[1], &[1], &[1], 60, 4096);
-    both(&[1], &[1], &[1], 60, 4097);
+    both(rt, &[1], &[1], &[1], 60, 4096)?;
+    both(rt, &[1], &[1], &[1], 60, 4097)?;
     let full = [1u32; 4096];
     let over = [1u32; 4097];
-    both(&full, &full, &full, 4096, 1);
-    both(&over, &over, &full, 4096, 1);
-    both(&full, &full, &over, 4096, 1);
+    both(rt, &full, &full, &full, 4096, 1)?;
+    both(rt, &over, &over, &full, 4096, 1)?;
+    both(rt, &full, &full, &over, 4096, 1)?;
     // 16 where the lengths differ
-    both(&[5, 5], &[1, 1], &[5, 5, 5], 60, 1);
-    both(&[5, 5], &[1, 1], &[5], 60, 1);
+    both(rt, &[5, 5], &[1, 1], &[5, 5, 5], 60, 1)?;
+    both(rt, &[5, 5], &[1, 1], &[5], 60, 1)
 }
 
 // One case of each refusal of an entry, and of their order.
-fn entries() {
+fn entries(rt: &impl Print) -> io::Result<()> {
     // 16, before 13
-    both(&[5, 6], &[1, 1], &[5, 5], 60, 1);
-    both(&[0], &[1], &[5], 60, 1);
+    both(rt, &[5, 6], &[1, 1], &[5, 5], 60, 1)?;
+    both(rt, &[0], &[1], &[5], 60, 1)?;
     // 13, before 14
-    both(&[5, 0], &[1, 1], &[5, 0], 60, 1);
-    both(&[61], &[0], &[61], 60, 1);
-    both(&[60], &[1], &[60], 60, 1);
+    both(rt, &[5, 0], &[1, 1], &[5, 0], 60, 1)?;
+    both(rt, &[61], &[0], &[61], 60, 1)?;
+    both(rt, &[60], &[1], &[60], 60, 1)?;
     // 14
-    both(&[5], &[0], &[5], 60, 1);
-    both(&[60, 60], &[1, 2], &[60, 60], 60, 1);
+    both(rt, &[5], &[0], &[5], 60, 1)?;
+    both(rt, &[60, 60], &[1, 2], &[60, 60], 60, 1)?;
     // 15
-    both(&[30, 20, 30], &[1, 2, 1], &[30, 20, 30], 60, 2);
-    both(&[30, 20, 31], &[1, 2, 1], &[30, 20, 31], 60, 2);
+    both(rt, &[30, 20, 30], &[1, 2, 1], &[30, 20, 30], 60, 2)?;
+    both(rt, &[30, 20, 31], &[1, 2, 1], &[30, 20, 31], 60, 2)?;
     let full = [1u32; 4096];
-    both(&full, &full, &full, 4095, 1);
+    both(rt, &full, &full, &full, 4095, 1)
 }
 
-fn main() {
-    worked();
-    limits();
-    entries();
+fn main(rt: HostRuntime) -> io::Result<()> {
+    worked(&rt)?;
+    limits(&rt)?;
+    entries(&rt)
 }

@@ -1,6 +1,7 @@
 -- What the public call promises of a stream beyond its result and its rows, which are equations: a field a promise. The statements themselves are in the
 -- specs of packing, alike and worst_case. Proved in ../proofs/Promises.antt.
-use Rattle.packing.specs.Prelude.{ℕ, ◌≡◌, List}
+use Rattle.std.specs.Prelude.{◌≡◌}
+use Rattle.packing.specs.Prelude.{ℕ, List}
 use Rattle.packing.specs.declared.{Opening.Opening, Production.Production, Command.Command}
 use Rattle.packing.specs.Streams.{accepted, verdict}
 use Rattle.packing.specs.Claims.{HoldsAnswered, NeverOverfull, TrueSizesFit, LowestPermitted, FreeUnits, Looks, LoadsAddUp, Withdrawals, Settlings, Stays, AnswersInRange, Opened, Counts, Productions}

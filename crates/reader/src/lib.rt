@@ -12,7 +12,7 @@ use limits::MOST_COMMANDS;
 use packing::{Opening, StreamReason};
 
 // What the first pass finds: the opening and the number of commands after it; or the first fault and its offset.
-#[derive(Drop)]
+#[derive(Clone, Copy)]
 pub enum Summary {
     Accepted(Opening, usize),
     Refused(StreamReason, usize),

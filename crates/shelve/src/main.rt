@@ -2,14 +2,17 @@
 // output, so all the work is in `report::print`.
 #![tactic(auto)]
 
-use libc::{STDIN_FILENO, STDOUT_FILENO};
+use report::refused::MOST_BYTES;
+use std::io::{self, Read};
 
-// It reads until the input ends, a read fails, or there is one byte more than the longest stream; a read that fails counts as the end of the
-// input. It writes every byte of the text, or stops at the first write that fails.
-fn main() {
-    let mut stream = [0u8; 32769];
-    let read = io::read_full(STDIN_FILENO, &mut stream);
+// It reads until the input ends, or there is one byte more than the longest stream, and writes every byte of the text. A read or a write that fails ends
+// it, with the status 1.
+fn main(rt: HostRuntime) -> io::Result<()> {
+    let mut stream = Vec::new(rt.alloc());
+    rt.stdin()
+        .take(MOST_BYTES as u64 + 1)
+        .read_to_end(&mut stream)?;
     let mut out = [0u8; report::N];
-    let printed = report::print(&stream[..read], &mut out);
-    io::write_all(STDOUT_FILENO, &out[..printed]);
+    let printed = report::print(&stream, &mut out);
+    rt.write_all(&out[..printed])
 }

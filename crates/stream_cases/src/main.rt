@@ -14,38 +14,38 @@
 
 ghost use Rattle.std.specs.Prelude.{◌≤◌, ◌<◌, length};
 
-use libc::{STDIN_FILENO, STDOUT_FILENO};
+use std::io::{self, Read};
 
 // More than the cases have.
-const TEXT: usize = 65536;
+const TEXT: u64 = 65536;
 
 // One byte more than the longest stream.
 const SPACE: usize = 32769;
 
 // The answers to a stream.
-fn show(stream: &[u8]) {
+fn show(rt: &impl Print, stream: &[u8]) -> io::Result<()> {
     let mut out = [0u8; report::N];
     let end = report::print(stream, &mut out);
-    io::write_all(STDOUT_FILENO, &out[..end]);
+    rt.write_all(&out[..end])
 }
 
 // The sheet of a stream.
-fn show_sheet(stream: &[u8]) {
+fn show_sheet(rt: &impl Print, stream: &[u8]) -> io::Result<()> {
     let mut out = [0u8; sheet::N];
     let end = sheet::print(stream, &mut out);
-    io::write_all(STDOUT_FILENO, &out[..end]);
+    rt.write_all(&out[..end])
 }
 
 // Of a long text of answers, its length and its last bytes.
-fn show_end(stream: &[u8], last: usize) {
+fn show_end(rt: &impl Print, stream: &[u8], last: usize) -> io::Result<()> {
     let mut out = [0u8; report::N];
     let end = report::print(stream, &mut out);
-    io::print_decimal(STDOUT_FILENO, end as u64);
-    io::write_all(STDOUT_FILENO, b" bytes, the last of them:\n");
+    println!(rt; "{end} bytes, the last of them:")?;
     if last <= end {
         let from = end - last;
-        io::write_all(STDOUT_FILENO, &out[from..end]);
+        rt.write_all(&out[from..end])?;
     }
+    Ok(())
 }
 
 // The first n bytes of a row; the whole row, where it has fewer.
@@ -116,44 +116,54 @@ fn repeat(s: &mut [u8; SPACE], digits: usize, line: &[u8], times: usize) -> usiz
 }
 
 // A line with a number: digits that are added so many times, or the end of the answers. One that is too short for a number is passed over.
-fn take_number(s: &mut [u8; SPACE], digits: usize, line: &[u8]) -> usize
+fn take_number(
+    rt: &impl Print,
+    s: &mut [u8; SPACE],
+    digits: usize,
+    line: &[u8],
+) -> io::Result<usize>
     requires { 1 ≤ length line.now }
 {
     if line.len() < 5 {
-        return digits;
+        return Ok(digits);
     }
     let n = number(line);
     if line[0] == b'*' {
-        return repeat(s, digits, &line[5..], n);
+        return Ok(repeat(s, digits, &line[5..], n));
     }
-    show_end(front(s, digits / 2), n);
-    digits
+    show_end(rt, front(s, digits / 2), n)?;
+    Ok(digits)
 }
 
 // Takes a line, with so many digits in the stream, and answers how many it then has.
-fn take_line(s: &mut [u8; SPACE], digits: usize, line: &[u8]) -> usize
+fn take_line(
+    rt: &impl Print,
+    s: &mut [u8; SPACE],
+    digits: usize,
+    line: &[u8],
+) -> io::Result<usize>
     requires { 1 ≤ length line.now }
 {
     match line[0] {
-        b'#' => digits,
+        b'#' => Ok(digits),
         b'=' => {
-            io::write_all(STDOUT_FILENO, &line[1..]);
-            0
+            rt.write_all(&line[1..])?;
+            Ok(0)
         }
         b'+' => {
-            io::write_all(STDOUT_FILENO, &line[1..]);
-            digits
+            rt.write_all(&line[1..])?;
+            Ok(digits)
         }
         b'A' => {
-            show(front(s, digits / 2));
-            digits
+            show(rt, front(s, digits / 2))?;
+            Ok(digits)
         }
         b'S' => {
-            show_sheet(front(s, digits / 2));
-            digits
+            show_sheet(rt, front(s, digits / 2))?;
+            Ok(digits)
         }
-        b'*' | b'E' => take_number(s, digits, line),
-        _ => put_digits(s, digits, line),
+        b'*' | b'E' => take_number(rt, s, digits, line),
+        _ => Ok(put_digits(s, digits, line)),
     }
 }
 
@@ -173,20 +183,21 @@ fn line_length(text: &[u8]) -> usize
 }
 
 // Takes the lines of a text, one behind the other.
-fn take_lines(text: &[u8]) {
+fn take_lines(rt: &impl Print, text: &[u8]) -> io::Result<()> {
     let mut s = [0u8; SPACE];
     let mut digits: usize = 0;
     let mut rest = text;
     while 0 < rest.len() {
         let n = line_length(rest);
-        digits = take_line(&mut s, digits, &rest[..n]);
+        digits = take_line(rt, &mut s, digits, &rest[..n])?;
         rest = &rest[n..];
     }
+    Ok(())
 }
 
 // It reads the cases until the input ends.
-fn main() {
-    let mut text = [0u8; TEXT];
-    let read = io::read_full(STDIN_FILENO, &mut text);
-    take_lines(&text[..read]);
+fn main(rt: HostRuntime) -> io::Result<()> {
+    let mut text = Vec::new(rt.alloc());
+    rt.stdin().take(TEXT).read_to_end(&mut text)?;
+    take_lines(&rt, &text)
 }

@@ -18,7 +18,7 @@ use tournament::{ROW_WORDS, looks};
 
 // What a stretch leaves: the counters of its production, how many commands are answered by then, the largest looks of one of them, and how many bytes
 // it has passed.
-#[derive(Drop)]
+#[derive(Clone, Copy)]
 pub struct Stretch {
     pub counters: Counters,
     pub done: usize,

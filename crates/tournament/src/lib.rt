@@ -17,14 +17,14 @@ pub const STRIDE: usize = 1024;
 pub const ROW_WORDS: usize = 8 * STRIDE;
 
 // How many places a tree has, and how far its root stands above them: the places are 2 to the power of the height.
-#[derive(Drop)]
+#[derive(Clone, Copy)]
 pub struct Shape {
     pub places: usize,
     pub height: usize,
 }
 
 // What a search finds.
-#[derive(Drop)]
+#[derive(Clone, Copy)]
 pub enum Found {
     At(usize),
     Nothing,

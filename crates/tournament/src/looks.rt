@@ -10,7 +10,7 @@ ghost use Rattle.tournament.specs.Looking.{looks_of, Looked, Descended, Finds};
 use crate::{Found, ROW_WORDS, Shape};
 
 // How many looks were taken.
-#[derive(Drop)]
+#[derive(Clone, Copy)]
 pub struct Looks {
     count: u32,
 }
@@ -19,7 +19,7 @@ pub struct Looks {
 pub const NONE: Looks = Looks { count: 0 };
 
 // What a search reports: what it has found, and the looks that it took.
-#[derive(Drop)]
+#[derive(Clone, Copy)]
 pub struct Searched {
     pub found: Found,
     pub looks: Looks,

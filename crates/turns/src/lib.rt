@@ -15,7 +15,7 @@ use tournament::looks::Looks;
 use tournament::{ROW_WORDS, Shape};
 
 // The counters of both productions after all commands, and the largest looks of one.
-#[derive(Drop)]
+#[derive(Clone, Copy)]
 pub struct Totals {
     pub first: Counters,
     pub second: Counters,
