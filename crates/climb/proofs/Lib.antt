@@ -1,3 +1,2 @@
--- Why a store leaves a tree: siblings, and the climb.
-pub mod Siblings
+-- Why a store leaves a tree: the climb.
 pub mod Climb

@@ -10,7 +10,8 @@ use native.Mathlib.Omega.{arith}
 use borrow.Author.Tests.{ltb-true, leb-true, leb-false, lt-ltb, le-leb, lt-leb}
 use lib.Dec.{ltb, leb}
 use lib.ListN.{length}
-use Rattle.packing.specs.Prelude.{if◌then◌else◌, Opening, First, Second, Production, Command, Shelve, Reserve, Refused, ItemReason, SizeZero, AboveCapacity, StockSpent, RangeWrong}
+use Rattle.std.specs.Prelude.{if◌then◌else◌}
+use Rattle.packing.specs.Prelude.{Opening, First, Second, Production, Command, Shelve, Reserve, Refused, ItemReason, SizeZero, AboveCapacity, StockSpent, RangeWrong}
 use Rattle.packing.specs.Bins.{Item, Bin, Packing, opened, load}
 use Rattle.packing.specs.Placing.{Decision, first_fit, permitted, target, has_space, takes, bin_for, decision, placed}
 use Rattle.packing.specs.Productions.{other}

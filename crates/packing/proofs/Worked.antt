@@ -1,5 +1,6 @@
 -- The table of ../specs/Worked.antt, proved together by one theorem that computes over it.
-use Rattle.packing.specs.Prelude.{◌≡◌, refl, map, zip_with, flatten, total, greatest, any, keep}
+use Rattle.std.specs.Prelude.{◌≡◌}
+use Rattle.packing.specs.Prelude.{refl, map, zip_with, flatten, total, greatest, any, keep}
 use Rattle.packing.specs.SizeClasses.{size_class}
 use Rattle.packing.specs.Placing.{first_fit, put, decision, placed}
 use Rattle.packing.specs.Looks.{height_from, looks}

@@ -1,5 +1,6 @@
 -- "Worked shelves": the cases marked ● make one table, proved together by one theorem that computes over it (../proofs/Worked.antt).
-use Rattle.packing.specs.Prelude.{ℕ, ◌+◌, ◌*◌, Bool, true, false, List, [], ◌∷◌, ◌++◌, map, flatten, take, drop, replicate, ◌≤?◌}
+use Rattle.std.specs.Prelude.{◌+◌, ◌*◌, ◌∷◌, ◌++◌}
+use Rattle.packing.specs.Prelude.{ℕ, Bool, true, false, List, [], map, flatten, take, drop, replicate, ◌≤?◌}
 use Rattle.packing.specs.Prelude.{Opening, SizeClass, A, B1, B2, X, First, Second, Command, Shelve, Count, Withdraw, Switch, Reserve, Settle, StreamResult, PlanResult, Overfull}
 use Rattle.packing.specs.Prelude.{CutShort, SecondOpening, TooFewWords, NoProduction, RowReason, RowResult}
 use Rattle.packing.specs.Refusals.{word, free_units}
