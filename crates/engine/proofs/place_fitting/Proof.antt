@@ -8,7 +8,7 @@ use Rattle.packing.specs.SizeClasses.{size_class, number_of}
 use Rattle.packing.specs.declared.Command.{Command}
 use Rattle.packing.specs.Bins.{Packing, stored}
 use Rattle.packing.specs.declared.ItemReason.TheVariants.{StockSpent}
-use Rattle.packing.specs.Prelude.{if◌then◌else◌}
+use Rattle.std.specs.Prelude.{if◌then◌else◌}
 use Rattle.packing.specs.Placing.{refusing, decision}
 use Rattle.packing.specs.Looks.{height, fits}
 use Rattle.packing.specs.Sending.{size_of, least_of, fault, item, item_of}
