@@ -45,7 +45,7 @@ pub record OfOne (o : Opening) (q : Production) (cs : List Command) : Type 0 whe
   -- Nor is one for any true sizes of the unsettled items within their ranges.
   pub true_sizes_fit : TrueSizesFit o q cs
   -- The free units beside an answer are those of its bin, until an item goes there, leaves it or is settled there.
-  pub free_units_lem : FreeUnits o q cs
+  pub free_units : FreeUnits o q cs
   -- The loads add up to the stored sizes still shelved, each as it is settled, or its greatest till then.
   pub loads_add_up : LoadsAddUp o q cs
   -- A bin keeps its number and class, and no B2 is uncounted.
