@@ -4,9 +4,9 @@
  * and as many pairs of a picture and a sound as can be had. docs/MANUAL.md tells the
  * whole of it. For C99 and later, and for C++.
  *
- * Link with libshelf.a, for x86-64 Linux: `rt staticlib shelf` proves the
- * library and writes target/staticlib/libshelf.a. A call allocates nothing; allow
- * it 216 KB of stack (shelf_stream), 240 KB (shelf_sheet), 17 KB
+ * Link with libshelf.a, for x86-64 Linux: host/staticlib proves the library (the
+ * crate shelf_c) and writes target/staticlib/libshelf.a. A call allocates nothing;
+ * allow it 216 KB of stack (shelf_stream), 240 KB (shelf_sheet), 17 KB
  * (shelf_check_plan) or 104 KB (shelf_repack, shelf_pair).
  *
  * The calls are total: every input within the rules on pointers below has the

@@ -15,8 +15,8 @@ fn main() {
     println!("cargo:rerun-if-changed={}", archive.display());
     if !archive.is_file() {
         eprintln!(
-            "{} is missing: build the static library first, or name its folder (an absolute \
-             path) in SHELF_LIB_DIR",
+            "{} is missing: build the static library first, by host/staticlib, or name its \
+             folder (an absolute path) in SHELF_LIB_DIR",
             archive.display()
         );
         std::process::exit(1);

@@ -10,7 +10,7 @@ use lib.Dec.{eqb}
 use borrow.Author.Tests.{eq-eqb, ne_eqb}
 use Rattle.packing.specs.declared.{Opening.Opening, SizeClass.SizeClass}
 use Rattle.packing.specs.declared.SizeClass.TheVariants.{A, B1, B2, X}
-use Rattle.packing.specs.Prelude.{if◌then◌else◌}
+use Rattle.std.specs.Prelude.{if◌then◌else◌}
 use Rattle.packing.specs.SizeClasses.{is_a, count_b2, number_of}
 use Rattle.packing.specs.Placing.{to_class, beside_a, target_of}
 use Rattle.aim.specs.Aims.{aim, home, tree_for, a_for, only_a, phase_after}

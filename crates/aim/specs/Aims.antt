@@ -1,8 +1,8 @@
 -- The five trees: which bins each shows, which one is searched for an item, and what is counted when an item is accepted and when one is taken out.
-use Rattle.std.specs.Prelude.{◌≡◌, ℕ, zero, suc, ◌+◌, ◌-◌, ◌<◌}
+use Rattle.std.specs.Prelude.{◌≡◌, ℕ, zero, suc, ◌+◌, ◌-◌, ◌<◌, if◌then◌else◌}
 use Rattle.packing.specs.declared.{SizeClass.SizeClass, PerClass.PerClass}
 use Rattle.packing.specs.SizeClasses.{number_of}
-use Rattle.packing.specs.Prelude.{◌=?◌, if◌then◌else◌}
+use Rattle.packing.specs.Prelude.{◌=?◌}
 use Rattle.packing.specs.Placing.{Target, to_class, beside_a, class_of}
 use Rattle.aim.specs.declared.Counters.{Counters}
 

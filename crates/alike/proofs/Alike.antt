@@ -8,7 +8,7 @@ use lib.Dec.{ltb}
 use lib.ListN.{length, take, drop, length-append, take-append-drop}
 use Rattle.packing.specs.declared.{Opening.Opening, Command.Command, Outcome.Outcome}
 use Rattle.packing.specs.declared.StreamReason.TheVariants.{TooFewWords}
-use Rattle.packing.specs.Prelude.{if◌then◌else◌}
+use Rattle.std.specs.Prelude.{if◌then◌else◌}
 use Rattle.packing.specs.Limits.{opening_good, most_commands}
 use Rattle.packing.specs.Streams.{opening_width, opening_of, Front, whole, faulty, front_of, Read, accepted, refused, follow, commands, read, lent, verdict}
 use Rattle.alike.specs.Openings.{without_trailer, with_zero_trailer, moved}

@@ -13,7 +13,8 @@ use Rattle.packing.specs.declared.{Opening.Opening, Production.Production, Comma
 use Rattle.packing.specs.declared.Production.TheVariants.{First}
 use Rattle.packing.specs.declared.Command.TheVariants.{Shelve, Count, Withdraw, Switch, Reserve, Settle}
 use Rattle.packing.specs.declared.ItemReason.TheVariants.{AboveCapacity, StockSpent}
-use Rattle.packing.specs.Prelude.{if◌then◌else◌, any}
+use Rattle.std.specs.Prelude.{if◌then◌else◌}
+use Rattle.packing.specs.Prelude.{any}
 use Rattle.packing.specs.Productions.{other}
 use Rattle.packing.specs.Refusals.{is_refused}
 use Rattle.packing.specs.Bins.{Item, Packing}

@@ -12,7 +12,8 @@ use borrow.Author.Tests.{le-leb, lt-leb}
 use Rattle.packing.specs.declared.{Opening.Opening, Production.Production, Command.Command, Outcome.Outcome}
 use Rattle.packing.specs.declared.Production.TheVariants.{First, Second}
 use Rattle.packing.specs.declared.Outcome.TheVariants.{Placed, Counted, Withdrawn, Switched, Settled, Refused}
-use Rattle.packing.specs.Prelude.{if◌then◌else◌, total, keep, ◌≤?◌}
+use Rattle.std.specs.Prelude.{if◌then◌else◌}
+use Rattle.packing.specs.Prelude.{total, keep, ◌≤?◌}
 use Rattle.packing.specs.Refusals.{is_refused}
 use Rattle.packing.specs.Productions.{is_same}
 use Rattle.packing.specs.Bins.{empty}

@@ -15,7 +15,8 @@ use lib.ListN.{length-map}
 use Rattle.packing.specs.declared.{Opening.Opening, Production.Production, Command.Command, Outcome.Outcome}
 use Rattle.packing.specs.declared.Production.TheVariants.{First, Second}
 use Rattle.packing.specs.declared.Command.TheVariants.{Shelve, Count, Withdraw, Switch, Reserve, Settle}
-use Rattle.packing.specs.Prelude.{if◌then◌else◌, total, any}
+use Rattle.std.specs.Prelude.{if◌then◌else◌}
+use Rattle.packing.specs.Prelude.{total, any}
 use Rattle.packing.specs.Refusals.{is_refused}
 use Rattle.packing.specs.SizeClasses.{is_a}
 use Rattle.packing.specs.Bins.{Item, Bin, Packing, load, add, kind, free_on, stored, holds, unsettled, in_range}

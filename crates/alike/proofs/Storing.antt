@@ -10,7 +10,7 @@ use borrow.Author.Tests.{ne_eqb, lt-ltb, le-ltb}
 use lib.Dec.{ltb}
 use Rattle.packing.specs.declared.{Opening.Opening, Production.Production, Command.Command, Outcome.Outcome, ItemReason.ItemReason}
 use Rattle.packing.specs.declared.Command.TheVariants.{Shelve, Count, Withdraw, Switch, Reserve, Settle}
-use Rattle.packing.specs.Prelude.{if◌then◌else◌}
+use Rattle.std.specs.Prelude.{if◌then◌else◌}
 use Rattle.packing.specs.Productions.{is_same}
 use Rattle.packing.specs.Refusals.{is_refused}
 use Rattle.packing.specs.Bins.{Item, Packing, stored}

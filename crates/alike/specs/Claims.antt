@@ -1,6 +1,7 @@
 -- What is the same of two lists of commands, or of two streams, as statements; ../proofs shows each of every opening and every list, or of every stream.
 -- Those about two productions are beside their definitions (Independent).
-use Rattle.packing.specs.Prelude.{ℕ, ◌≡◌, Bool, List, map}
+use Rattle.std.specs.Prelude.{◌≡◌}
+use Rattle.packing.specs.Prelude.{ℕ, Bool, List, map}
 use Rattle.packing.specs.declared.{Opening.Opening, Production.Production, Command.Command, Outcome.Outcome}
 use Rattle.packing.specs.Streams.{accepted, verdict}
 use Rattle.packing.specs.Run.{Step, run, outcomes, shelf, still_shelved, placements, row_at_exit}

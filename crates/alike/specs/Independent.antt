@@ -3,7 +3,8 @@ use Rattle.packing.specs.declared.{Opening.Opening, Production.Production, Comma
 use Rattle.packing.specs.declared.Production.TheVariants.{First}
 use Rattle.packing.specs.declared.Outcome.TheVariants.{Placed, Counted, Withdrawn, Switched, Settled, Refused}
 use Rattle.packing.specs.declared.ItemReason.TheVariants.{SizeZero, AboveCapacity, StockSpent, NotShelved, RangeWrong, NotReserved, OutsideRange}
-use Rattle.packing.specs.Prelude.{ℕ, ◌<◌, ◌≡◌, Bool, true, false, not, List, [], ◌∷◌, map, length, take, drop, get_or, any}
+use Rattle.std.specs.Prelude.{◌<◌, ◌≡◌, ◌∷◌}
+use Rattle.packing.specs.Prelude.{ℕ, Bool, true, false, not, List, [], map, length, take, drop, get_or, any}
 use Rattle.packing.specs.Productions.{other}
 use Rattle.packing.specs.Shelves.{is_switch, belonging}
 use Rattle.packing.specs.Streams.{accepted, verdict}

@@ -1,7 +1,8 @@
 -- A run with some of its commands left out: "every other refused command is left out too, and one that names a master is taken to name the same one".
 use Rattle.packing.specs.declared.{Command.Command, Outcome.Outcome}
 use Rattle.packing.specs.declared.Command.TheVariants.{Shelve, Count, Withdraw, Switch, Reserve, Settle}
-use Rattle.packing.specs.Prelude.{ℕ, Bool, not, ◌||◌, ◌&&◌, List, map, length, keep, ◌≤?◌}
+use Rattle.std.specs.Prelude.{◌||◌, ◌&&◌}
+use Rattle.packing.specs.Prelude.{ℕ, Bool, not, List, map, length, keep, ◌≤?◌}
 use Rattle.packing.specs.Refusals.{is_refused, is_placed, is_switched}
 use Rattle.packing.specs.Bins.{Item, Bin, Packing}
 use Rattle.packing.specs.Shelves.{Shelf}

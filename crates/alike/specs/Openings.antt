@@ -2,7 +2,8 @@
 -- the same without one, by their stored sizes.
 use Rattle.packing.specs.declared.{Opening.Opening, Command.Command}
 use Rattle.packing.specs.declared.Command.TheVariants.{Shelve, Count, Withdraw, Switch, Reserve, Settle}
-use Rattle.packing.specs.Prelude.{ℕ, zero, suc, ◌+◌, List, ◌∷◌, ◌++◌, take, drop, ◌=?◌, if◌then◌else◌}
+use Rattle.std.specs.Prelude.{◌+◌, ◌∷◌, ◌++◌, if◌then◌else◌}
+use Rattle.packing.specs.Prelude.{ℕ, zero, suc, List, take, drop, ◌=?◌}
 use Rattle.packing.specs.Bins.{stored}
 use Rattle.packing.specs.Streams.{opening_width, Read, accepted, refused}
 

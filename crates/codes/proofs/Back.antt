@@ -3,7 +3,7 @@ use mathlib.Core.Path.{◌≡◌, refl, ap}
 use mathlib.Core.Bool.{Bool, true, false}
 use Prim.Native.Nat.{◌+◌, ◌^◌}
 use native.Mathlib.Omega.{arith}
-use Rattle.packing.specs.Prelude.{if◌then◌else◌}
+use Rattle.std.specs.Prelude.{if◌then◌else◌}
 use Rattle.packing.specs.declared.{StreamResult.StreamResult, PlanResult.PlanResult, RepackResult.RepackResult, PairResult.PairResult}
 use Rattle.packing.specs.Refusals.{stream_number, plan_number, row_number}
 use Rattle.packing.proofs.Given.{stream_number_back, plan_number_back, row_number_back}

@@ -8,7 +8,7 @@ use native.Mathlib.Omega.{arith}
 use borrow.Author.Tests.{leb-true, ltb-false}
 use lib.Dec.{leb, ltb}
 use lib.ListN.{length, length-append}
-use Rattle.packing.specs.Prelude.{if◌then◌else◌}
+use Rattle.std.specs.Prelude.{if◌then◌else◌}
 use Rattle.packing.specs.declared.{RowReason.RowReason, RowResult.RowResult}
 use Rattle.packing.specs.Limits.{within, capacity_good, most_rows}
 use Rattle.packing.specs.Rows.{pass_if, ◌and_then◌, check_limits, check_sizes, check_words, check_row, check_pair}

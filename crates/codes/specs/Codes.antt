@@ -1,6 +1,5 @@
 -- A result as one 64-bit number, for C and Rust.
-use Rattle.std.specs.Prelude.{◌≡◌, ◌↔◌, List, ℕ, ◌+◌, ◌*◌, ◌^◌, ◌<◌}
-use Rattle.packing.specs.Prelude.{if◌then◌else◌}
+use Rattle.std.specs.Prelude.{◌≡◌, ◌↔◌, List, ℕ, ◌+◌, ◌*◌, ◌^◌, ◌<◌, if◌then◌else◌}
 use Rattle.packing.specs.declared.{Entry.Entry, StreamResult.StreamResult, PlanResult.PlanResult, RepackResult.RepackResult, PairResult.PairResult}
 use Rattle.packing.specs.Refusals.{stream_number, plan_number, row_number}
 use Rattle.worst_case.specs.PlanFits.{Fits}

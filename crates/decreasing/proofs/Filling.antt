@@ -7,7 +7,7 @@ use native.Mathlib.Omega.{arith}
 use borrow.Author.Tests.{leb-true, leb-false}
 use lib.ListN.{drop}
 use lib.Seq.{drop-nil}
-use Rattle.packing.specs.Prelude.{if◌then◌else◌}
+use Rattle.std.specs.Prelude.{if◌then◌else◌}
 use Rattle.packing.specs.Bins.{Item, Bin, Packing, opened, load, add}
 use Rattle.packing.specs.Placing.{put}
 use Rattle.packing.proofs.Putting.{fresh, put_length}

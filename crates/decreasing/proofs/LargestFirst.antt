@@ -5,7 +5,8 @@ use mathlib.Core.Bool.{Bool, true, false}
 use mathlib.Core.List.{List, [], ◌∷◌, map}
 use native.Mathlib.Omega.{arith}
 use borrow.Author.Tests.{leb-true, leb-false}
-use Rattle.packing.specs.Prelude.{if◌then◌else◌, total}
+use Rattle.std.specs.Prelude.{if◌then◌else◌}
+use Rattle.packing.specs.Prelude.{total}
 use Rattle.packing.specs.Bins.{Item}
 use Rattle.worst_case.proofs.Lists.{All, Pairs, all_map}
 use Rattle.decreasing.specs.LargestFirst.{goes_before, insert, largest_first}

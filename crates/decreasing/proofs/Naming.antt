@@ -6,7 +6,8 @@ use mathlib.Core.Bool.{Bool, true, false, ◌||◌, true≢false, false≢true}
 use mathlib.Core.List.{List, [], ◌∷◌, foldl}
 use native.Mathlib.Omega.{arith}
 use borrow.Author.Tests.{eq-eqb, ne_eqb, lt-ltb, le-ltb}
-use Rattle.packing.specs.Prelude.{if◌then◌else◌, total, any}
+use Rattle.std.specs.Prelude.{if◌then◌else◌}
+use Rattle.packing.specs.Prelude.{total, any}
 use Rattle.packing.specs.Bins.{Item, Bin, Packing, empty, add}
 use Rattle.packing.specs.Placing.{first_fit, put}
 use Rattle.packing.specs.Withdrawing.{is_named, holds_named, bin_holding}

@@ -18,12 +18,8 @@ use Rattle.decreasing.specs.Repack.{bin_for, next, repacked, new_bins}
 use Rattle.decreasing.specs.Written.{written}
 use Rattle.decreasing.specs.Claims.{WrittenAll}
 use Rattle.decreasing.proofs.LargestFirst.{sorted_sum, sorted_all}
-use Rattle.decreasing.proofs.Items.{items_length, items_at, items_from, times, times_none, times_one}
+use Rattle.decreasing.proofs.Items.{before, items_length, items_at, items_from, times, times_none, times_one}
 use Rattle.decreasing.proofs.Naming.{Apart, row_apart, next_apart, found_for}
-
--- How many words stand before an item's.
-abbrev before : Item → ℕ
-before i = i.command - 1
 
 module _ (c : ℕ) where
   -- The row with an item's number.

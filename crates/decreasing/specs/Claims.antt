@@ -1,5 +1,6 @@
 -- What is promised of a repacking, of every row that is not refused.
-use Rattle.packing.specs.Prelude.{ℕ, ◌*◌, ◌≤◌, ◌≡◌, List, ◌++◌, length, drop, greatest, Memᴰ}
+use Rattle.std.specs.Prelude.{◌*◌, ◌≤◌, ◌≡◌, ◌++◌}
+use Rattle.packing.specs.Prelude.{ℕ, List, length, drop, greatest, Memᴰ}
 use Rattle.packing.specs.declared.{Opening.Opening, Production.Production, Command.Command, Entry.Entry, PlanResult.PlanResult, RowResult.RowResult}
 use Rattle.packing.specs.Bins.{empty}
 use Rattle.packing.specs.Plans.{check}

@@ -1,5 +1,6 @@
 -- First-Fit-Decreasing: the items of a row, largest first, each into the first bin with space or into a new one; and what the call of a repacking gives.
-use Rattle.packing.specs.Prelude.{ℕ, suc, ◌+◌, Bool, List, [], ◌++◌, map, foldl, length, drop, ◌≤?◌}
+use Rattle.std.specs.Prelude.{◌+◌, ◌++◌}
+use Rattle.packing.specs.Prelude.{ℕ, suc, Bool, List, [], map, foldl, length, drop, ◌≤?◌}
 use Rattle.packing.specs.declared.{Entry.Entry, RowResult.RowResult, RepackResult.RepackResult}
 use Rattle.packing.specs.Bins.{Item, Bin, Packing, empty, opened, load}
 use Rattle.packing.specs.Placing.{first_fit, put}

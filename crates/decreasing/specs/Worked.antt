@@ -1,6 +1,7 @@
 -- Repackings computed: equal sizes in row order; a row for which three new bins stand against a plan of two, so that 3 / 2 is met; and what the call
 -- gives.
-use Rattle.packing.specs.Prelude.{ℕ, ◌*◌, ◌≡◌, refl, List, [], ◌∷◌, length, zip_with, total, any}
+use Rattle.std.specs.Prelude.{◌*◌, ◌≡◌, ◌∷◌}
+use Rattle.packing.specs.Prelude.{ℕ, refl, List, [], length, zip_with, total, any}
 use Rattle.packing.specs.declared.{PlanResult.PlanResult}
 use Rattle.packing.specs.Placing.{first_fit, put}
 use Rattle.packing.specs.Plans.{plan_of, limits, fault, entries, check}

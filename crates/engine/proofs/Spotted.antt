@@ -14,7 +14,8 @@ use borrow.Author.Tests.{le-leb, lt-leb, lt-ltb, le-ltb, leb-true, leb-false}
 use Rattle.packing.specs.declared.Opening.{Opening}
 use Rattle.packing.specs.declared.{ItemReason.ItemReason}
 use Rattle.packing.specs.declared.ItemReason.TheVariants.{StockSpent}
-use Rattle.packing.specs.Prelude.{total, if◌then◌else◌}
+use Rattle.std.specs.Prelude.{if◌then◌else◌}
+use Rattle.packing.specs.Prelude.{total}
 use Rattle.packing.specs.Bins.{Item, Bin, Packing, opened, load}
 use Rattle.packing.specs.Placing.{refusing, class_of, takes, bin_for, spent, decision}
 use Rattle.packing.specs.Looks.{height, fits}

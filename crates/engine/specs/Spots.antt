@@ -1,7 +1,6 @@
 -- Where an item goes that is searched for in a tree, by what first fit finds there and by what is left of the stock.
-use Rattle.std.specs.Prelude.{◌≡◌, List, ℕ, ◌+◌, ◌-◌, leb}
+use Rattle.std.specs.Prelude.{◌≡◌, List, ℕ, ◌+◌, ◌-◌, leb, if◌then◌else◌}
 use Rattle.packing.specs.declared.Opening.{Opening}
-use Rattle.packing.specs.Prelude.{if◌then◌else◌}
 use Rattle.tournament.specs.declared.{Shape.Shape, Found.Found}
 use Rattle.tournament.specs.declared.Found.TheVariants.{At, Nothing}
 use Rattle.tournament.specs.LowestFit.{lowest_fit}

@@ -1,6 +1,6 @@
 -- What is left once a row of the ledger is shown at its place: in the trees of its class what it offers, and everything else as it was.
-use Rattle.std.specs.Prelude.{◌≡◌, ◌&&◌, List, ℕ, ◌≤◌, ◌<◌}
-use Rattle.packing.specs.Prelude.{◌=?◌, if◌then◌else◌}
+use Rattle.std.specs.Prelude.{◌≡◌, ◌&&◌, List, ℕ, ◌≤◌, ◌<◌, if◌then◌else◌}
+use Rattle.packing.specs.Prelude.{◌=?◌}
 use Rattle.tournament.specs.declared.Shape.{Shape}
 use Rattle.aim.specs.Aims.{home}
 use Rattle.ledger.specs.Rows.{class_in, free_in}

@@ -9,7 +9,8 @@ use borrow.Author.Tests.{eq-eqb}
 use lib.Dec.{eqb, eqb-zero-suc, eqb-suc-zero, eqb-suc-suc}
 use lib.ListN.{length, get_or}
 use Rattle.packing.specs.declared.Opening.{Opening}
-use Rattle.packing.specs.Prelude.{if◌then◌else◌, total, keep}
+use Rattle.std.specs.Prelude.{if◌then◌else◌}
+use Rattle.packing.specs.Prelude.{total, keep}
 use Rattle.packing.specs.Bins.{Item, Bin, Packing, load, free_on, add}
 use Rattle.packing.specs.Placing.{class_of, first_fit, put, target, takes, bin_for, placed}
 use Rattle.packing.proofs.Putting.{fresh}

@@ -10,7 +10,8 @@ use lib.Seq.{get_or-set_same, get_or-set_other}
 use lib.Dec.{eqb}
 use borrow.Author.Tests.{eq-eqb, ne_eqb}
 use Rattle.packing.specs.declared.Opening.{Opening}
-use Rattle.packing.specs.Prelude.{if◌then◌else◌, total, keep}
+use Rattle.std.specs.Prelude.{if◌then◌else◌}
+use Rattle.packing.specs.Prelude.{total, keep}
 use Rattle.packing.specs.SizeClasses.{is_a}
 use Rattle.packing.specs.Bins.{Item, Bin, Packing, load, add, kind}
 use Rattle.packing.specs.Placing.{class_of, target, takes, placed}

@@ -12,7 +12,8 @@ use lib.Dec.{eqb}
 use lib.ListN.{length, get_or, set, length-set, get_or-eq_default}
 use lib.Seq.{get_or-set_same, get_or-set_other}
 use Rattle.packing.specs.declared.Opening.{Opening}
-use Rattle.packing.specs.Prelude.{if◌then◌else◌, any, keep}
+use Rattle.std.specs.Prelude.{if◌then◌else◌}
+use Rattle.packing.specs.Prelude.{any, keep}
 use Rattle.packing.specs.Bins.{Item, Bin, Packing, items_of, holds}
 use Rattle.packing.specs.Placing.{first_fit, bin_for, placed}
 use Rattle.packing.specs.Withdrawing.{is_named, holds_named, bin_holding, without}

@@ -9,7 +9,8 @@ use lib.Dec.{leb, eqb, ltb}
 use lib.ListN.{length, get_or}
 use borrow.Author.Tests.{le-leb, lt-leb, lt-ltb, ne_eqb, eqb-true}
 use Rattle.packing.specs.declared.Opening.{Opening}
-use Rattle.packing.specs.Prelude.{if◌then◌else◌, any, keep}
+use Rattle.std.specs.Prelude.{if◌then◌else◌}
+use Rattle.packing.specs.Prelude.{any, keep}
 use Rattle.packing.specs.SizeClasses.{is_a}
 use Rattle.packing.specs.Bins.{Item, Bin, Packing, opened, load, kind}
 use Rattle.packing.specs.Placing.{Target, first_fit, permitted, target, takes}

@@ -13,7 +13,8 @@ use lib.Dec.{eqb, leb}
 use lib.ListN.{length, set, length-set, length-map}
 use lib.Seq.{get_or-set_same, get_or-set_other}
 use Rattle.packing.specs.declared.Opening.{Opening}
-use Rattle.packing.specs.Prelude.{if◌then◌else◌, total, any, keep}
+use Rattle.std.specs.Prelude.{if◌then◌else◌}
+use Rattle.packing.specs.Prelude.{total, any, keep}
 use Rattle.packing.specs.SizeClasses.{is_a}
 use Rattle.packing.specs.Bins.{Item, Bin, Packing, load, items_of, kind, free_on, holds, has_range, unsettled, ranges, in_range}
 use Rattle.packing.specs.Claims.{SoundBin}

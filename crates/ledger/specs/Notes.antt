@@ -1,8 +1,8 @@
 -- The rows by command: for each number the bin that holds the command's item, 0 where it has none on the shelf; the item's stored size, which counts; the
 -- least stored size that it can have while it is unsettled, else 0; and the stored size that it was shelved by.
-use Rattle.std.specs.Prelude.{◌≡◌, List, [], ◌∷◌, ℕ, suc, length, get_or}
+use Rattle.std.specs.Prelude.{◌≡◌, List, [], ◌∷◌, ℕ, suc, length, get_or, if◌then◌else◌}
 use Rattle.std.proofs.Math.Option.{Option, none, some}
-use Rattle.packing.specs.Prelude.{keep, ◌=?◌, if◌then◌else◌}
+use Rattle.packing.specs.Prelude.{keep, ◌=?◌}
 use Rattle.packing.specs.Bins.{Item, Packing, items_of}
 use Rattle.packing.specs.Withdrawing.{is_named}
 

@@ -1,6 +1,6 @@
 -- What a row of the ledger offers to an item: the free space of its bin, where the item may join that.
-use Rattle.std.specs.Prelude.{Bool, ◌&&◌, List, ℕ, zero, suc}
-use Rattle.packing.specs.Prelude.{◌=?◌, ◌<?◌, if◌then◌else◌}
+use Rattle.std.specs.Prelude.{Bool, ◌&&◌, List, ℕ, zero, suc, if◌then◌else◌}
+use Rattle.packing.specs.Prelude.{◌=?◌, ◌<?◌}
 use Rattle.ledger.specs.Rows.{class_in, free_in, held_a_in}
 
 -- Group n, for n from 1 to 4, is the bins of class n; group 0 those of class 1 that hold an A.

@@ -9,7 +9,8 @@ use native.Mathlib.Decide.{dec_le, ℕ_discrete}
 use borrow.Author.Tests.{lt-ltb, eqb-true, eq-eqb, ne_eqb}
 use lib.Dec.{eqb, ltb}
 use lib.ListN.{length, get_or, length-map, get_or-eq_default}
-use Rattle.packing.specs.Prelude.{if◌then◌else◌, total, keep}
+use Rattle.std.specs.Prelude.{if◌then◌else◌}
+use Rattle.packing.specs.Prelude.{total, keep}
 use Rattle.packing.specs.Bins.{Item}
 use Rattle.packing.proofs.Weights.{one_for, total_passing}
 use Rattle.worst_case.proofs.Lists.{All, Pairs, all_map}

@@ -7,7 +7,8 @@ use native.Mathlib.Omega.{arith}
 use native.Mathlib.Decide.{dec_le}
 use borrow.Author.Tests.{le-leb, lt-leb, le-ltb}
 use lib.ListN.{length}
-use Rattle.packing.specs.Prelude.{if◌then◌else◌, total}
+use Rattle.std.specs.Prelude.{if◌then◌else◌}
+use Rattle.packing.specs.Prelude.{total}
 use Rattle.packing.specs.Bins.{Item}
 use Rattle.packing.proofs.Weights.{one_for}
 use Rattle.worst_case.proofs.Lists.{All, Pairs, all_map}

@@ -1,6 +1,6 @@
 -- What is promised of a pairing, of every capacity and every two rows.
-use Rattle.std.specs.Prelude.{get_or}
-use Rattle.packing.specs.Prelude.{ℕ, zero, suc, ◌+◌, ◌≤◌, ◌≡◌, List, [], ◌∷◌, ◌++◌, map, length, replicate, keep, Memᴰ, ◌<?◌}
+use Rattle.std.specs.Prelude.{get_or, ◌+◌, ◌≤◌, ◌≡◌, ◌∷◌, ◌++◌}
+use Rattle.packing.specs.Prelude.{ℕ, zero, suc, List, [], map, length, replicate, keep, Memᴰ, ◌<?◌}
 use Rattle.packing.specs.Bins.{Item}
 use Rattle.matching.specs.Pairs.{Pair, fitting, pairs, sound_places, pair_count}
 use Rattle.matching.specs.Written.{written}

@@ -1,5 +1,6 @@
 -- Algorithm PM: each picture, from the smallest, with the largest sound that fits beside it; and what the call of a pairing gives.
-use Rattle.packing.specs.Prelude.{ℕ, ◌+◌, Bool, List, [], ◌∷◌, ◌++◌, map, reverse, length, drop, ◌=?◌, ◌≤?◌, if◌then◌else◌}
+use Rattle.std.specs.Prelude.{◌+◌, ◌∷◌, ◌++◌, if◌then◌else◌}
+use Rattle.packing.specs.Prelude.{ℕ, Bool, List, [], map, reverse, length, drop, ◌=?◌, ◌≤?◌}
 use Rattle.packing.specs.declared.{RowResult.RowResult, PairResult.PairResult}
 use Rattle.packing.specs.Bins.{Item}
 use Rattle.ordering.specs.Items.{items}

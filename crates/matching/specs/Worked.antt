@@ -1,5 +1,6 @@
 -- Pairings computed at capacity 10: the answers, the number of pairs, and what the call gives.
-use Rattle.packing.specs.Prelude.{ℕ, ◌≡◌, refl, List, [], ◌∷◌, map}
+use Rattle.std.specs.Prelude.{◌≡◌, ◌∷◌}
+use Rattle.packing.specs.Prelude.{ℕ, refl, List, [], map}
 use Rattle.packing.specs.Refusals.{Returned, figures, refusal, pair_gives}
 use Rattle.packing.specs.Rows.{check_limits, check_sizes, check_pair}
 use Rattle.ordering.specs.Items.{items}

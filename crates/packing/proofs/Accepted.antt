@@ -7,7 +7,8 @@ use native.Mathlib.Omega.{arith}
 use borrow.Author.Tests.{ltb-false}
 use lib.Dec.{ltb}
 use lib.ListN.{length, drop}
-use Rattle.packing.specs.Prelude.{if◌then◌else◌, Opening, Command, StreamReason, NoOpening, CutShort, OutsideLimits, TooFewWords}
+use Rattle.std.specs.Prelude.{if◌then◌else◌}
+use Rattle.packing.specs.Prelude.{Opening, Command, StreamReason, NoOpening, CutShort, OutsideLimits, TooFewWords}
 use Rattle.packing.specs.Limits.{opening_good, most_commands}
 use Rattle.packing.specs.Streams.{is_opening, opening_width, opening_length, opening_of, Front, whole, faulty, front_of, Read, accepted, refused, follow, commands, read, lent}
 use Rattle.packing.specs.Claims.{WholeStream, AcceptedWhole}

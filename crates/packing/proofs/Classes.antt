@@ -6,7 +6,8 @@ use mathlib.Core.List.{List, [], ◌∷◌, ◌++◌, map, map-map, append_assoc
 use native.Mathlib.Omega.{arith}
 use lib.ListN.{length, take, drop, length-map}
 use lib.Seq.{take_at, take-add}
-use Rattle.packing.specs.Prelude.{if◌then◌else◌, Opening, Production, Command, Outcome}
+use Rattle.std.specs.Prelude.{if◌then◌else◌}
+use Rattle.packing.specs.Prelude.{Opening, Production, Command, Outcome}
 use Rattle.packing.specs.Bins.{Item, Bin, Packing, opened, add, stored}
 use Rattle.packing.specs.Placing.{put, class_of, target, takes, placed}
 use Rattle.packing.specs.Withdrawing.{emptied_of, without}

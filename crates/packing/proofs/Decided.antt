@@ -6,7 +6,8 @@ use mathlib.Core.Bool.{Bool, true, false}
 use mathlib.Core.Option.{Option, none, some}
 use borrow.Author.Tests.{ltb-true, ltb-false, lt-ltb, le-ltb}
 use lib.Dec.{ltb}
-use Rattle.packing.specs.Prelude.{if◌then◌else◌, Opening, ItemReason, AboveCapacity, StockSpent}
+use Rattle.std.specs.Prelude.{if◌then◌else◌}
+use Rattle.packing.specs.Prelude.{Opening, ItemReason, AboveCapacity, StockSpent}
 use Rattle.packing.specs.Bins.{Item, Packing}
 use Rattle.packing.specs.Placing.{Decision, into, refusing, bin_for, spent, decision}
 

@@ -7,7 +7,8 @@ use native.Mathlib.Omega.{arith}
 use lib.Dec.{ltb}
 use lib.ListN.{length, drop}
 use borrow.Author.Tests.{lt-ltb, le-ltb, ltb-false}
-use Rattle.packing.specs.Prelude.{if◌then◌else◌, Command, Width, Known, Unknown, UnknownOpcode, CutShort, SecondOpening, NoProduction}
+use Rattle.std.specs.Prelude.{if◌then◌else◌}
+use Rattle.packing.specs.Prelude.{Command, Width, Known, Unknown, UnknownOpcode, CutShort, SecondOpening, NoProduction}
 use Rattle.packing.specs.Streams.{is_opening, first_byte, widths, lookup, command_of, names_none, whole, faulty, front, front_of}
 use Rattle.packing.proofs.Tests.{clash}
 

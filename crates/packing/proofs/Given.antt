@@ -7,7 +7,8 @@ use mathlib.Core.List.{List, [], ◌∷◌, map, zip_with}
 use native.Mathlib.Omega.{arith}
 use borrow.Author.Tests.{lt-ltb, le-ltb}
 use lib.Dec.{eqb, ltb}
-use Rattle.packing.specs.Prelude.{if◌then◌else◌, Opening, Production, First, Second, Command, Shelve, Count, Withdraw, Switch, Reserve, Settle, Outcome, Placed, Counted, Withdrawn, Switched, Settled, Refused}
+use Rattle.std.specs.Prelude.{if◌then◌else◌}
+use Rattle.packing.specs.Prelude.{Opening, Production, First, Second, Command, Shelve, Count, Withdraw, Switch, Reserve, Settle, Outcome, Placed, Counted, Withdrawn, Switched, Settled, Refused}
 use Rattle.packing.specs.Prelude.{ItemReason, SizeZero, AboveCapacity, StockSpent, NotShelved, RangeWrong, NotReserved, OutsideRange}
 use Rattle.packing.specs.Prelude.{StreamReason, NoOpening, UnknownOpcode, CutShort, SecondOpening, OutsideLimits, TooManyCommands, TooFewWords, NoProduction, StreamResult}
 use Rattle.packing.specs.Prelude.{PlanReason, CapacityOutside, TooLong, SizeOutside, BinOutside, Overfull, OtherItems, PlanResult, RowReason, RepackResult, PairResult}

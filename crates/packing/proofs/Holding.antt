@@ -7,7 +7,8 @@ use mathlib.Core.List.{List, [], ◌∷◌, ◌++◌, map, reverse, reverse_aux,
 use native.Mathlib.Omega.{arith}
 use lib.Dec.{eqb, eqb-zero-suc, eqb-suc-zero, eqb-suc-suc}
 use lib.ListN.{get_or}
-use Rattle.packing.specs.Prelude.{if◌then◌else◌, total, keep, Opening, Production, Command, Outcome}
+use Rattle.std.specs.Prelude.{if◌then◌else◌}
+use Rattle.packing.specs.Prelude.{total, keep, Opening, Production, Command, Outcome}
 use Rattle.packing.specs.Bins.{Item, Bin, Packing, empty, load, items_of, add, stored}
 use Rattle.packing.specs.Placing.{first_fit, put, target, class_of, takes, bin_for, placed}
 use Rattle.packing.specs.Withdrawing.{is_named, emptied_of, without}

@@ -38,3 +38,5 @@ pub mod Walking
 pub mod Underway
 pub mod Offsets
 pub mod Theorems
+-- the worked shelves
+pub mod Worked

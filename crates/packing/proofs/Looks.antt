@@ -13,7 +13,8 @@ use native.Mathlib.Omega.{arith}
 use lib.Dec.{leb, ltb}
 use lib.ListN.{length, take, drop}
 use borrow.Author.Tests.{lt-ltb, le-ltb, leb-true, leb-false}
-use Rattle.packing.specs.Prelude.{greatest, any, if◌then◌else◌, Opening, Command, ItemReason}
+use Rattle.std.specs.Prelude.{if◌then◌else◌}
+use Rattle.packing.specs.Prelude.{greatest, any, Opening, Command, ItemReason}
 use Rattle.packing.specs.Bins.{Item, Bin, Packing}
 use Rattle.packing.specs.Placing.{first_fit, takes}
 use Rattle.packing.specs.Looks.{height_from, height, fits, looks}

@@ -6,7 +6,8 @@ use mathlib.Core.List.Memᴰ
 use mathlib.Core.List.{List, [], ◌∷◌, Memᴰ}
 use native.Mathlib.Omega.{arith}
 use lib.ListN.{take, drop}
-use Rattle.packing.specs.Prelude.{if◌then◌else◌, Opening, Command, Outcome, Placed}
+use Rattle.std.specs.Prelude.{if◌then◌else◌}
+use Rattle.packing.specs.Prelude.{Opening, Command, Outcome, Placed}
 use Rattle.packing.specs.Bins.{Bin, Packing}
 use Rattle.packing.specs.Placing.{first_fit, takes, bin_for}
 use Rattle.packing.specs.Sending.{item_of}

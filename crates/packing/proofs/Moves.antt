@@ -5,7 +5,8 @@ use mathlib.Core.Bool.{Bool, true, false, not, ◌||◌, false≢true}
 use mathlib.Core.List.{List, [], ◌∷◌}
 use native.Mathlib.Omega.{arith}
 use lib.ListN.{length}
-use Rattle.packing.specs.Prelude.{if◌then◌else◌, any, Opening, Production, First, Second, Command, Shelve, Count, Withdraw, Switch, Reserve, Settle}
+use Rattle.std.specs.Prelude.{if◌then◌else◌}
+use Rattle.packing.specs.Prelude.{any, Opening, Production, First, Second, Command, Shelve, Count, Withdraw, Switch, Reserve, Settle}
 use Rattle.packing.specs.Prelude.{Outcome, Placed, Counted, Withdrawn, Switched, Settled, Refused, ItemReason, NotShelved, NotReserved, OutsideRange}
 use Rattle.packing.specs.Refusals.{is_refused, is_placed, is_switched}
 use Rattle.packing.specs.Bins.{Item, Packing, empty, opened, free_on, stored, holds}

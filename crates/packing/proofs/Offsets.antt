@@ -7,7 +7,8 @@ use native.Mathlib.Omega.{arith}
 use lib.Dec.{eqb, ltb}
 use lib.ListN.{length, drop, length-drop}
 use borrow.Author.Tests.{ltb-false}
-use Rattle.packing.specs.Prelude.{if◌then◌else◌, any, Opening, Command, WidthRow, Known, NoOpening, CutShort, OutsideLimits, TooFewWords}
+use Rattle.std.specs.Prelude.{if◌then◌else◌}
+use Rattle.packing.specs.Prelude.{any, Opening, Command, WidthRow, Known, NoOpening, CutShort, OutsideLimits, TooFewWords}
 use Rattle.packing.specs.Limits.{opening_good, most_commands}
 use Rattle.packing.specs.Streams.{is_opening, opening_width, widths, lookup, opening_of, Front, whole, faulty, front_of}
 use Rattle.packing.specs.Streams.{Read, accepted, refused, follow, commands, read, lent, verdict}

@@ -9,7 +9,8 @@ use native.Mathlib.Omega.{arith}
 use borrow.Author.Tests.{leb-true, leb-false, ltb-false}
 use lib.Dec.{eqb, ltb, leb}
 use lib.ListN.{length, length-map}
-use Rattle.packing.specs.Prelude.{if◌then◌else◌, total, any, Opening, SizeClass, A, B1, B2, X, Production, First, Second, Command, Outcome}
+use Rattle.std.specs.Prelude.{if◌then◌else◌}
+use Rattle.packing.specs.Prelude.{total, any, Opening, SizeClass, A, B1, B2, X, Production, First, Second, Command, Outcome}
 use Rattle.packing.specs.Bins.{Item, Bin, Packing, empty, opened, load, add, kind, holds_a, stored, unsettled}
 use Rattle.packing.specs.Placing.{to_class, beside_a, class_of, first_fit, target_of, permitted, target, has_space, takes, bin_for, spent, placed}
 use Rattle.packing.specs.Withdrawing.{is_named, emptied_of, without}

@@ -8,7 +8,8 @@ use native.Mathlib.Omega.{arith}
 use borrow.Author.Tests.{leb-true, le-leb, ltb-false, le-ltb}
 use lib.Dec.{leb, ltb}
 use lib.ListN.{length}
-use Rattle.packing.specs.Prelude.{if◌then◌else◌, RowReason, RowResult}
+use Rattle.std.specs.Prelude.{if◌then◌else◌}
+use Rattle.packing.specs.Prelude.{RowReason, RowResult}
 use Rattle.packing.specs.Limits.{within, capacity_good, most_rows}
 use Rattle.packing.specs.Rows.{pass_if, ◌and_then◌, check_limits, check_sizes, check_words, check_row, check_pair, SoundRow, RowsExact, SoundPair, PairExact}
 use Rattle.packing.proofs.Tests.{clash, each_cons, each_append}

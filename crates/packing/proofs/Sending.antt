@@ -7,7 +7,8 @@ use mathlib.Core.Option.{none, some}
 use native.Mathlib.Omega.{arith}
 use borrow.Author.Tests.{eqb-true, eqb-false, eq-eqb, ne_eqb, ltb-true, ltb-false, lt-ltb, le-ltb, leb-true}
 use lib.Dec.{eqb, ltb}
-use Rattle.packing.specs.Prelude.{if◌then◌else◌, ◌≤?◌, Opening, Command, Shelve, Count, Withdraw, Switch, Reserve, Settle, ItemReason, SizeZero, RangeWrong}
+use Rattle.std.specs.Prelude.{if◌then◌else◌}
+use Rattle.packing.specs.Prelude.{◌≤?◌, Opening, Command, Shelve, Count, Withdraw, Switch, Reserve, Settle, ItemReason, SizeZero, RangeWrong}
 use Rattle.packing.specs.Bins.{stored, ranges}
 use Rattle.packing.specs.Sending.{shelves_item, size_of, least_of, fault}
 use Rattle.packing.proofs.Tests.{clash, both_true}

@@ -7,7 +7,8 @@ use mathlib.Core.List.{List, [], ◌∷◌, map, map-map, Memᴰ}
 use mathlib.Core.Option.{Option, none, some}
 use native.Mathlib.Omega.{arith}
 use borrow.Author.Tests.{leb-true}
-use Rattle.packing.specs.Prelude.{if◌then◌else◌, total, any, ◌≤?◌, Opening}
+use Rattle.std.specs.Prelude.{if◌then◌else◌}
+use Rattle.packing.specs.Prelude.{total, any, ◌≤?◌, Opening}
 use Rattle.packing.specs.Bins.{Item, Bin, kind, holds, has_range, unsettled, ranges, in_range}
 use Rattle.packing.specs.Withdrawing.{is_named, holds_named}
 use Rattle.packing.specs.Settling.{settled_to, awaits, admits, settled, settled_bin}

@@ -10,7 +10,8 @@ use native.Mathlib.Omega.{arith}
 use borrow.Author.Tests.{eqb-true, eq-eqb, ne_eqb, le-leb, leb-true, leb-false}
 use lib.Dec.{leb}
 use lib.ListN.{take, drop}
-use Rattle.packing.specs.Prelude.{if◌then◌else◌, total, any, ◌≤?◌, Opening, Production, Command, Shelve, Count, Withdraw, Switch, Reserve, Settle}
+use Rattle.std.specs.Prelude.{if◌then◌else◌}
+use Rattle.packing.specs.Prelude.{total, any, ◌≤?◌, Opening, Production, Command, Shelve, Count, Withdraw, Switch, Reserve, Settle}
 use Rattle.packing.specs.Prelude.{Outcome, Settled, Refused, NotReserved, OutsideRange}
 use Rattle.packing.specs.Refusals.{is_refused, is_settled}
 use Rattle.packing.specs.Bins.{Item, Packing, free_on, stored, holds, has_range, unsettled, in_range}

@@ -1,6 +1,6 @@
 -- The items still shelved, by the trace: every weight of them is that of the bins, each has an earlier number, a size and an opened bin, and a step that
 -- shelved it there.
-use Prim.Native.Nat.{ℕ, suc, ◌+◌, ◌≤◌, ◌<◌}
+use Prim.Native.Nat.{ℕ, suc, ◌≤◌, ◌<◌}
 use mathlib.Core.Path.{◌≡◌, refl, sym, ap, ◌∙◌}
 use mathlib.Core.Bool.{Bool, true, false, not, ◌||◌, true≢false, false≢true}
 use mathlib.Core.List.Memᴰ
@@ -10,7 +10,8 @@ use native.Mathlib.Decide.{ℕ_discrete}
 use borrow.Author.Tests.{not-true, eq-eqb, ne_eqb}
 use lib.Dec.{eqb, ltb}
 use lib.ListN.{length}
-use Rattle.packing.specs.Prelude.{if◌then◌else◌, total, any, Opening, Production, Command, Outcome, Placed, Counted, Withdrawn, Switched, Settled, Refused}
+use Rattle.std.specs.Prelude.{if◌then◌else◌}
+use Rattle.packing.specs.Prelude.{total, any, Opening, Production, Command, Outcome, Placed, Counted, Withdrawn, Switched, Settled, Refused}
 use Rattle.packing.specs.Bins.{Item, Packing, empty, opened, stored, holds, unsettled, in_range}
 use Rattle.packing.specs.Placing.{target, class_of, takes, bin_for, placed}
 use Rattle.packing.specs.Withdrawing.{is_named, without}

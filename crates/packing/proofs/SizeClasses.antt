@@ -5,7 +5,8 @@ use mathlib.Core.Bool.{Bool, true, false}
 use native.Mathlib.Omega.{arith}
 use borrow.Author.Tests.{ltb-true, ltb-false}
 use lib.Dec.{ltb}
-use Rattle.packing.specs.Prelude.{if◌then◌else◌, SizeClass, A, B1, B2, X}
+use Rattle.std.specs.Prelude.{if◌then◌else◌}
+use Rattle.packing.specs.Prelude.{SizeClass, A, B1, B2, X}
 use Rattle.packing.specs.SizeClasses.{size_class}
 use Rattle.packing.specs.Claims.{Bounds}
 

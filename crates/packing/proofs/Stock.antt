@@ -1,6 +1,6 @@
 -- Refusals 8, 19, 9 and 10 of an item, each exactly under its condition: 10 when no permitted bin of the
 -- production has space and both productions together have opened the whole stock.
-use Prim.Native.Nat.{ℕ, suc, ◌+◌, ◌-◌, ◌≤◌, ◌<◌}
+use Prim.Native.Nat.{ℕ, suc, ◌+◌, ◌≤◌, ◌<◌}
 use mathlib.Core.Path.{◌≡◌, refl, ap, ◌∙◌}
 use mathlib.Core.Bool.{Bool, true, false, ◌&&◌, false≢true}
 use mathlib.Core.Option.{none, some}
@@ -10,7 +10,8 @@ use native.Mathlib.Omega.{arith}
 use borrow.Author.Tests.{ltb-true, leb-true, leb-false, lt-ltb, le-leb, lt-leb}
 use lib.Dec.{ltb, leb}
 use lib.ListN.{length}
-use Rattle.packing.specs.Prelude.{if◌then◌else◌, Opening, First, Second, Production, Command, Shelve, Reserve, Refused, ItemReason, SizeZero, AboveCapacity, StockSpent, RangeWrong}
+use Rattle.std.specs.Prelude.{if◌then◌else◌}
+use Rattle.packing.specs.Prelude.{Opening, First, Second, Production, Command, Shelve, Reserve, Refused, ItemReason, SizeZero, AboveCapacity, StockSpent, RangeWrong}
 use Rattle.packing.specs.Bins.{Item, Bin, Packing, opened, load}
 use Rattle.packing.specs.Placing.{Decision, first_fit, permitted, target, has_space, takes, bin_for, decision, placed}
 use Rattle.packing.specs.Productions.{other}

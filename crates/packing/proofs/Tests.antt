@@ -5,7 +5,8 @@ use mathlib.Core.Bool.{Bool, true, false, ◌&&◌, false≢true}
 use mathlib.Core.List.Memᴰ
 use mathlib.Core.List.{List, [], ◌∷◌, ◌++◌, map, Memᴰ}
 use native.Mathlib.Omega.{arith}
-use Rattle.packing.specs.Prelude.{if◌then◌else◌, keep}
+use Rattle.std.specs.Prelude.{if◌then◌else◌}
+use Rattle.packing.specs.Prelude.{keep}
 
 -- Two cases of a type are not equal: `cc` makes of such an equation that 0 is 1.
 pub clash : {A : Type 0} → ◌≡◌ {A = ℕ} 0 1 → A

@@ -8,7 +8,8 @@ use mathlib.Core.List.{List, [], ◌∷◌, map, map-map, Memᴰ}
 use native.Mathlib.Omega.{arith}
 use lib.Dec.{eqb}
 use lib.ListN.{take}
-use Rattle.packing.specs.Prelude.{if◌then◌else◌, total, keep, Opening, Production, Command}
+use Rattle.std.specs.Prelude.{if◌then◌else◌}
+use Rattle.packing.specs.Prelude.{total, keep, Opening, Production, Command}
 use Rattle.packing.specs.Bins.{Item, Bin, stored, unsettled, in_range}
 use Rattle.packing.specs.Run.{Shelved, entry_of, packing, still_shelved}
 use Rattle.packing.specs.Compared.{shelf_plan, sizes_in}

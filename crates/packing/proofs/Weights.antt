@@ -7,7 +7,8 @@ use native.Mathlib.Omega.{arith}
 use borrow.Author.Tests.{lt-ltb}
 use lib.Dec.{ltb}
 use lib.ListN.{length}
-use Rattle.packing.specs.Prelude.{if◌then◌else◌, total, any, keep}
+use Rattle.std.specs.Prelude.{if◌then◌else◌}
+use Rattle.packing.specs.Prelude.{total, any, keep}
 use Rattle.packing.specs.Bins.{Item, Bin, add}
 use Rattle.packing.specs.Placing.{put}
 use Rattle.packing.specs.Withdrawing.{is_named, emptied_of}

@@ -10,7 +10,8 @@ use native.Mathlib.Omega.{arith}
 use borrow.Author.Tests.{eqb-true, eq-eqb}
 use lib.Dec.{eqb}
 use lib.ListN.{length, take, drop, get_or}
-use Rattle.packing.specs.Prelude.{if◌then◌else◌, any, keep, Opening, Production, Command, Withdraw, Outcome, Withdrawn, Refused, NotShelved}
+use Rattle.std.specs.Prelude.{if◌then◌else◌}
+use Rattle.packing.specs.Prelude.{any, keep, Opening, Production, Command, Withdraw, Outcome, Withdrawn, Refused, NotShelved}
 use Rattle.packing.specs.Refusals.{is_refused, is_withdrawn}
 use Rattle.packing.specs.Bins.{Item, Bin, Packing, free_on}
 use Rattle.packing.specs.Placing.{first_fit}

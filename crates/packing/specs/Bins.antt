@@ -1,5 +1,6 @@
 -- Items, bins and packings: document 01's masters, cartridges and shelf.
-use Rattle.packing.specs.Prelude.{ℕ, zero, suc, ◌+◌, ◌-◌, Bool, true, false, ◌&&◌, Option, none, some, List, [], ◌∷◌, map, length, get_or, total, any, ◌≤?◌, Opening, SizeClass}
+use Rattle.std.specs.Prelude.{◌+◌, ◌-◌, ◌&&◌, ◌∷◌}
+use Rattle.packing.specs.Prelude.{ℕ, zero, suc, Bool, true, false, Option, none, some, List, [], map, length, get_or, total, any, ◌≤?◌, Opening, SizeClass}
 use Rattle.packing.specs.SizeClasses.{size_class, is_a}
 
 -- A master: the number of the command that shelved it; its whole number of units, the trailer with them, which is the size that counts; the size that it

@@ -1,7 +1,8 @@
 -- What is promised of the model, as statements; ../proofs shows each of every opening and every list of commands. Demand 3 and the plan of a packing's
 -- own answers are stated in the crate worst_case.
-use Rattle.packing.specs.Prelude.{ℕ, suc, ◌+◌, ◌*◌, ◌^◌, ◌≤◌, ◌<◌, min, ◌≡◌, ◌↔◌, ◌⊎◌, Bool, true, false, ◌||◌, none}
-use Rattle.packing.specs.Prelude.{List, [], ◌∷◌, ◌++◌, map, zip_with, flatten, reverse, length, take, drop, Memᴰ, total, any, keep, ◌=?◌, if◌then◌else◌}
+use Rattle.std.specs.Prelude.{◌+◌, ◌*◌, ◌^◌, ◌≤◌, ◌<◌, ◌≡◌, ◌↔◌, ◌⊎◌, ◌||◌, ◌∷◌, ◌++◌, if◌then◌else◌}
+use Rattle.packing.specs.Prelude.{ℕ, suc, min, Bool, true, false, none}
+use Rattle.packing.specs.Prelude.{List, [], map, zip_with, flatten, reverse, length, take, drop, Memᴰ, total, any, keep, ◌=?◌}
 use Rattle.packing.specs.Prelude.{Opening, SizeClass, A, B1, B2, X, Production, First, Second, Command, Shelve, Count, Withdraw, Switch, Reserve, Settle, Outcome, Placed, Withdrawn, Switched, Settled, Refused, ItemReason, SizeZero, AboveCapacity, StockSpent, NotShelved, RangeWrong, NotReserved, OutsideRange}
 use Rattle.packing.specs.Prelude.{StreamResult, PlanResult, RepackResult, PairResult}
 use Rattle.packing.specs.Productions.{other}

@@ -1,6 +1,7 @@
 -- "What demand 3 compares", after a list of commands and for one production: the accepted items and the number opened on one side, the bins that a plan
 -- uses on the other. And the production's own plan, which is of the items still shelved.
-use Rattle.packing.specs.Prelude.{ℕ, ◌+◌, Bool, not, ◌||◌, List, [], ◌∷◌, map, greatest, any, keep, ◌=?◌, if◌then◌else◌, Opening, Production, Command, Outcome, Entry}
+use Rattle.std.specs.Prelude.{◌+◌, ◌||◌, ◌∷◌, if◌then◌else◌}
+use Rattle.packing.specs.Prelude.{ℕ, Bool, not, List, [], map, greatest, any, keep, ◌=?◌, Opening, Production, Command, Outcome, Entry}
 use Rattle.packing.specs.Refusals.{is_withdrawn, is_settled}
 use Rattle.packing.specs.Run.{entry_of, steps, placements, still_shelved}
 

@@ -1,5 +1,6 @@
 -- "Counting that ends early" (document 02, point 3): the walk over the places of the stock.
-use Rattle.packing.specs.Prelude.{ℕ, zero, suc, List, [], ◌∷◌, Tally}
+use Rattle.std.specs.Prelude.{◌∷◌}
+use Rattle.packing.specs.Prelude.{ℕ, zero, suc, List, [], Tally}
 use Rattle.packing.specs.Bins.{Bin}
 
 -- What stands at the places of a stock, place 1 first: the class of each bin, and 0 where none is opened yet.

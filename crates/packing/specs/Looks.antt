@@ -1,6 +1,7 @@
 -- "Looks per placement" (document 02, point 8): how many looks a search takes, and which items are searched for. By the packing alone: what fits, and what
 -- does not.
-use Rattle.packing.specs.Prelude.{ℕ, zero, suc, ◌+◌, ◌^◌, Bool, true, false, Option, none, some, any, ◌≤?◌, ◌<?◌, if◌then◌else◌, Opening, ItemReason}
+use Rattle.std.specs.Prelude.{◌+◌, ◌^◌, if◌then◌else◌}
+use Rattle.packing.specs.Prelude.{ℕ, zero, suc, Bool, true, false, Option, none, some, any, ◌≤?◌, ◌<?◌, Opening, ItemReason}
 use Rattle.packing.specs.Bins.{Item, Packing}
 use Rattle.packing.specs.Placing.{takes}
 

@@ -1,5 +1,6 @@
 -- "Where a master goes": Refined First-Fit, one item at a time.
-use Rattle.packing.specs.Prelude.{ℕ, suc, ◌+◌, ◌%◌, Bool, ◌&&◌, Option, none, some, List, [], ◌∷◌, ◌=?◌, ◌≤?◌, ◌<?◌, if◌then◌else◌, Opening}
+use Rattle.std.specs.Prelude.{◌+◌, ◌%◌, ◌&&◌, ◌∷◌, if◌then◌else◌}
+use Rattle.packing.specs.Prelude.{ℕ, suc, Bool, Option, none, some, List, [], ◌=?◌, ◌≤?◌, ◌<?◌, Opening}
 use Rattle.packing.specs.Prelude.{SizeClass, A, B1, B2, X, ItemReason, AboveCapacity, StockSpent}
 use Rattle.packing.specs.SizeClasses.{count_b2}
 use Rattle.packing.specs.Bins.{Item, Bin, Packing, opened, load, add, kind, holds_a}

@@ -1,7 +1,7 @@
 -- The words that the model is written in: the library's, the types shared with the code, tests on numbers, and four functions on lists.
-pub use Rattle.std.specs.Prelude.{ℕ, zero, suc, ◌+◌, ◌-◌, ◌*◌, ◌%◌, ◌^◌, ◌≤◌, ◌<◌, min, max, ◌≡◌, refl, ◌↔◌, ◌⊎◌, Bool, true, false, not, ◌&&◌, ◌||◌, length, take, drop, replicate, get_or}
+pub use Rattle.std.specs.Prelude.{ℕ, zero, suc, min, max, refl, Bool, true, false, not, length, take, drop, replicate, get_or}
 pub use Rattle.std.proofs.Math.Option.{Option, none, some}
-pub use mathlib.Core.List.{List, [], ◌∷◌, ◌++◌, map, foldl, reverse, Memᴰ}
+pub use mathlib.Core.List.{List, [], map, foldl, reverse, Memᴰ}
 unfoldable pub use mathlib.Core.List.{zip_with, flatten}
 pub use Rattle.packing.specs.declared.{Opening.Opening, SizeClass.SizeClass, PerClass.PerClass, Production.Production, Command.Command, WidthRow.WidthRow, Width.Width}
 pub use Rattle.packing.specs.declared.{ItemReason.ItemReason, Outcome.Outcome, Answer.Answer, Tally.Tally, StreamReason.StreamReason, StreamResult.StreamResult}
@@ -14,10 +14,9 @@ pub use Rattle.packing.specs.declared.Outcome.TheVariants.{Placed, Counted, With
 pub use Rattle.packing.specs.declared.ItemReason.TheVariants.{SizeZero, AboveCapacity, StockSpent, NotShelved, RangeWrong, NotReserved, OutsideRange}
 pub use Rattle.packing.specs.declared.StreamReason.TheVariants.{NoOpening, UnknownOpcode, CutShort, SecondOpening, OutsideLimits, TooManyCommands, TooFewWords, NoProduction}
 pub use Rattle.packing.specs.declared.PlanReason.TheVariants.{CapacityOutside, TooLong, SizeOutside, BinOutside, Overfull, OtherItems}
-use Rattle.std.specs.Prelude.{eqb, leb, ltb}
+use Rattle.std.specs.Prelude.{◌+◌, ◌||◌, ◌∷◌, if◌then◌else◌, eqb, leb, ltb}
 
 infix 40 ◌=?◌ ◌≤?◌ ◌<?◌
-infix 10 if◌then◌else◌
 -- tests: equal, at most, below
 abbrev pub ◌=?◌ : ℕ → ℕ → Bool
 a =? b = eqb a b
@@ -27,11 +26,6 @@ a ≤? b = leb a b
 
 abbrev pub ◌<?◌ : ℕ → ℕ → Bool
 a <? b = ltb a b
-
--- The checker computes a function's own recursive call in both branches: where that would cost, an `elim` stands instead.
-abbrev pub if◌then◌else◌ {ℓ} : {A : Type ℓ} → Bool → A → A → A
-if true then a else b = a
-if false then a else b = b
 
 unfoldable pub total : List ℕ → ℕ
 total [] = 0

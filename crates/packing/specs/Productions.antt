@@ -1,5 +1,6 @@
 -- "Two productions, one stock" (document 02, point 6): the two, and their numbers, which are the bytes of command 05.
-use Rattle.packing.specs.Prelude.{ℕ, Bool, true, false, ◌=?◌, if◌then◌else◌, Production, First, Second}
+use Rattle.std.specs.Prelude.{if◌then◌else◌}
+use Rattle.packing.specs.Prelude.{ℕ, Bool, true, false, ◌=?◌, Production, First, Second}
 
 abbrev pub production_number : Production → ℕ
 production_number First = 0

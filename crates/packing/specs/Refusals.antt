@@ -1,5 +1,6 @@
 -- "What a refusal gives": the number of each refusal, the answer word of an outcome, and what a result gives in document 01's numbers.
-use Rattle.packing.specs.Prelude.{ℕ, ◌+◌, ◌-◌, Bool, true, false, List, [], ◌∷◌, ◌=?◌, ◌<?◌, if◌then◌else◌, Command, Shelve, Count, Withdraw, Switch, Reserve, Settle, StreamResult, PlanResult, RowReason, RepackResult, PairResult}
+use Rattle.std.specs.Prelude.{◌+◌, ◌-◌, ◌∷◌, if◌then◌else◌}
+use Rattle.packing.specs.Prelude.{ℕ, Bool, true, false, List, [], ◌=?◌, ◌<?◌, Command, Shelve, Count, Withdraw, Switch, Reserve, Settle, StreamResult, PlanResult, RowReason, RepackResult, PairResult}
 use Rattle.packing.specs.Prelude.{Outcome, Placed, Counted, Withdrawn, Switched, Settled, Refused, ItemReason, SizeZero, AboveCapacity, StockSpent, NotShelved, RangeWrong, NotReserved, OutsideRange}
 use Rattle.packing.specs.Prelude.{StreamReason, NoOpening, UnknownOpcode, CutShort, SecondOpening, OutsideLimits, TooManyCommands, TooFewWords, NoProduction}
 use Rattle.packing.specs.Prelude.{PlanReason, CapacityOutside, TooLong, SizeOutside, BinOutside, Overfull, OtherItems}

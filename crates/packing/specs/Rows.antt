@@ -1,5 +1,6 @@
 -- What the calls over rows of sizes refuse (document 02, from point 10 on).
-use Rattle.packing.specs.Prelude.{ℕ, suc, ◌≤◌, max, ◌≡◌, ◌↔◌, Bool, true, not, List, [], ◌∷◌, ◌++◌, Memᴰ, length, ◌≤?◌, ◌<?◌, if◌then◌else◌, RowReason, RowResult}
+use Rattle.std.specs.Prelude.{◌≤◌, ◌≡◌, ◌↔◌, ◌∷◌, ◌++◌, if◌then◌else◌}
+use Rattle.packing.specs.Prelude.{ℕ, suc, max, Bool, true, not, List, [], Memᴰ, length, ◌≤?◌, ◌<?◌, RowReason, RowResult}
 use Rattle.packing.specs.Limits.{within, capacity_good, most_rows}
 
 -- One test, which refuses with place 0, and one test after another: the first that refuses answers.

@@ -1,5 +1,6 @@
 -- What an accepted stream does: each command gets the shelf that the one before it left, the first the empty one, and works on its production's packing.
-use Rattle.packing.specs.Prelude.{ℕ, suc, ◌+◌, true, false, not, List, [], ◌∷◌, ◌++◌, map, foldl, flatten, length, drop, keep, greatest, if◌then◌else◌}
+use Rattle.std.specs.Prelude.{◌+◌, ◌∷◌, ◌++◌, if◌then◌else◌}
+use Rattle.packing.specs.Prelude.{ℕ, suc, true, false, not, List, [], map, foldl, flatten, length, drop, keep, greatest}
 use Rattle.packing.specs.Prelude.{Opening, Production, First, Second, Command, Shelve, Count, Withdraw, Switch, Reserve, Settle}
 use Rattle.packing.specs.Prelude.{Outcome, Placed, Counted, Withdrawn, Switched, Settled, Refused, Answer, Entry, StreamResult}
 use Rattle.packing.specs.Productions.{is_same}

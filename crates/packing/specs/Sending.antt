@@ -1,5 +1,6 @@
 -- What a command sends: the item that 02 or 06 is to shelve, the fault of its bare sizes, and the item that 04 or 07 names.
-use Rattle.packing.specs.Prelude.{ℕ, Bool, true, false, ◌||◌, Option, none, some, ◌=?◌, ◌<?◌, if◌then◌else◌}
+use Rattle.std.specs.Prelude.{◌||◌, if◌then◌else◌}
+use Rattle.packing.specs.Prelude.{ℕ, Bool, true, false, Option, none, some, ◌=?◌, ◌<?◌}
 use Rattle.packing.specs.Prelude.{Opening, Command, Shelve, Count, Withdraw, Switch, Reserve, Settle, ItemReason, SizeZero, RangeWrong}
 use Rattle.packing.specs.Bins.{Item, stored}
 

@@ -1,6 +1,7 @@
 -- "Sizes known within a range" (document 02, point 9): command 07, which names an item of 06 by the number of that command and tells its size. The size is
 -- the stored one here, as those of the range are: "the trailer is added to each".
-use Rattle.packing.specs.Prelude.{ℕ, Bool, not, ◌&&◌, none, map, any, if◌then◌else◌, Opening, Outcome, Settled, Refused, NotReserved, OutsideRange}
+use Rattle.std.specs.Prelude.{◌&&◌, if◌then◌else◌}
+use Rattle.packing.specs.Prelude.{ℕ, Bool, not, none, map, any, Opening, Outcome, Settled, Refused, NotReserved, OutsideRange}
 use Rattle.packing.specs.Bins.{Item, Bin, Packing, free_on, holds, unsettled, in_range}
 use Rattle.packing.specs.Withdrawing.{is_named, bin_holding}
 

@@ -1,5 +1,6 @@
 -- The shelf of two productions: a packing of each, and the production that is current.
-use Rattle.packing.specs.Prelude.{ℕ, ◌-◌, Bool, true, false, Opening, Production, First, Second, Command, Shelve, Count, Withdraw, Switch, Reserve, Settle}
+use Rattle.std.specs.Prelude.{◌-◌}
+use Rattle.packing.specs.Prelude.{ℕ, Bool, true, false, Opening, Production, First, Second, Command, Shelve, Count, Withdraw, Switch, Reserve, Settle}
 use Rattle.packing.specs.Productions.{other}
 use Rattle.packing.specs.Bins.{Packing, empty, opened}
 

@@ -1,5 +1,6 @@
 -- "Command streams": a row of bytes is read as an opening and the commands after it, or refused.
-use Rattle.packing.specs.Prelude.{ℕ, zero, suc, ◌+◌, ◌*◌, min, ◌≡◌, Bool, not, ◌||◌, ◌&&◌, List, [], ◌∷◌, foldl, length, take, drop, get_or, ◌=?◌, ◌<?◌, if◌then◌else◌}
+use Rattle.std.specs.Prelude.{◌+◌, ◌*◌, ◌≡◌, ◌||◌, ◌&&◌, ◌∷◌, if◌then◌else◌}
+use Rattle.packing.specs.Prelude.{ℕ, zero, suc, min, Bool, not, List, [], foldl, length, take, drop, get_or, ◌=?◌, ◌<?◌}
 use Rattle.packing.specs.Prelude.{Opening, Command, Shelve, Count, Withdraw, Switch, Reserve, Settle, WidthRow, Width, Known, Unknown}
 use Rattle.packing.specs.Prelude.{StreamReason, NoOpening, UnknownOpcode, CutShort, SecondOpening, OutsideLimits, TooManyCommands, TooFewWords, NoProduction}
 use Rattle.packing.specs.Limits.{opening_good, most_commands}

@@ -1,5 +1,6 @@
 -- How far the answering of an accepted stream has come: what the functions of a run promise to each other. No promise about the shelf rests on it.
-use Rattle.packing.specs.Prelude.{ℕ, ◌+◌, ◌-◌, ◌≤◌, ◌≡◌, List, ◌++◌, map, length, drop, Opening, Command}
+use Rattle.std.specs.Prelude.{◌+◌, ◌-◌, ◌≤◌, ◌≡◌, ◌++◌}
+use Rattle.packing.specs.Prelude.{ℕ, List, map, length, drop, Opening, Command}
 use Rattle.packing.specs.Refusals.{word, free_units}
 use Rattle.packing.specs.Limits.{most_commands}
 use Rattle.packing.specs.Streams.{accepted, commands, words_lent}

@@ -1,5 +1,6 @@
 -- "Withdrawn masters" (document 02, point 4): command 04, which names an item by the number of the command that shelved it.
-use Rattle.packing.specs.Prelude.{ℕ, suc, Bool, not, map, any, keep, ◌=?◌, if◌then◌else◌, Opening, Outcome, Withdrawn, Refused, NotShelved}
+use Rattle.std.specs.Prelude.{if◌then◌else◌}
+use Rattle.packing.specs.Prelude.{ℕ, suc, Bool, not, map, any, keep, ◌=?◌, Opening, Outcome, Withdrawn, Refused, NotShelved}
 use Rattle.packing.specs.Bins.{Item, Bin, Packing, free_on, holds}
 use Rattle.packing.specs.Placing.{first_fit}
 

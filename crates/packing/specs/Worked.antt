@@ -1,19 +1,17 @@
--- "Worked shelves": the cases marked ● make one table, proved together by one theorem that computes over it.
-use Rattle.packing.specs.Prelude.{ℕ, ◌+◌, ◌*◌, ◌≡◌, refl, Bool, true, false, List, [], ◌∷◌, ◌++◌, map, zip_with, flatten, take, drop, replicate, total, greatest, any, keep, ◌≤?◌}
+-- "Worked shelves": the cases marked ● make one table, proved together by one theorem that computes over it (../proofs/Worked.antt).
+use Rattle.std.specs.Prelude.{◌+◌, ◌*◌, ◌∷◌, ◌++◌}
+use Rattle.packing.specs.Prelude.{ℕ, Bool, true, false, List, [], map, flatten, take, drop, replicate, ◌≤?◌}
 use Rattle.packing.specs.Prelude.{Opening, SizeClass, A, B1, B2, X, First, Second, Command, Shelve, Count, Withdraw, Switch, Reserve, Settle, StreamResult, PlanResult, Overfull}
 use Rattle.packing.specs.Prelude.{CutShort, SecondOpening, TooFewWords, NoProduction, RowReason, RowResult}
 use Rattle.packing.specs.Refusals.{word, free_units}
 use Rattle.packing.specs.SizeClasses.{size_class}
-use Rattle.packing.specs.Placing.{first_fit, put, decision, placed}
-use Rattle.packing.specs.Looks.{height_from, height, looks}
-use Rattle.packing.specs.Streams.{widths, lookup, commands, read, verdict}
-use Rattle.packing.specs.Withdrawing.{without, withdrawal}
-use Rattle.packing.specs.Settling.{settling, settlement}
-use Rattle.packing.specs.Run.{run_from, shelf_from, steps_of, packing, outcomes, looks_taken, result, row_at_exit}
+use Rattle.packing.specs.Looks.{height}
+use Rattle.packing.specs.Streams.{verdict}
+use Rattle.packing.specs.Run.{packing, outcomes, looks_taken, result, row_at_exit}
 use Rattle.packing.specs.Counting.{stock_places, walk}
-use Rattle.packing.specs.Plans.{plan_of, limits, fault, entries, check}
+use Rattle.packing.specs.Plans.{plan_of, check}
 use Rattle.packing.specs.Compared.{accepted_sizes, number_opened, shelf_plan, shelved_sizes, used}
-use Rattle.packing.specs.Rows.{check_limits, check_sizes, check_row, check_pair}
+use Rattle.packing.specs.Rows.{check_row, check_pair}
 
 -- What a case is about.
 pub data Finding : Type 0 where
@@ -248,7 +246,3 @@ table =
     words (row_at_exit word (verdict sample 12) (replicate 12 7)) is words (1 ∷ 2 ∷ 2 ∷ 3 ∷ 3 ∷ 4 ∷ 1 ∷ 32_778 ∷ 4 ∷ 4 ∷ 7 ∷ 7 ∷ []) ∷
     words (row_at_exit free_units (verdict sample 12) (replicate 12 7)) is words (25 ∷ 38 ∷ 16 ∷ 38 ∷ 16 ∷ 38 ∷ 3 ∷ 0 ∷ 0 ∷ 16 ∷ 7 ∷ 7 ∷ []) ∷
     []
-
-pub worked_shelves : map (λ c. c.0) table ≡ map (λ c. c.1) table
-unfolding table size_class total greatest any keep first_fit put decision placed height_from looks without withdrawal settling settlement run_from shelf_from steps_of stock_places walk zip_with flatten used limits fault entries check check_limits check_sizes check_row widths lookup commands read
-worked_shelves = refl

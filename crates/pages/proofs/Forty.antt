@@ -9,7 +9,7 @@ use native.Mathlib.Omega.{arith}
 use lib.Dec.{eqb}
 use lib.ListN.{length, length-append}
 use Rattle.packing.specs.declared.Opening.{Opening}
-use Rattle.packing.specs.Prelude.{if◌then◌else◌}
+use Rattle.std.specs.Prelude.{if◌then◌else◌}
 use Rattle.packing.specs.Bins.{Packing, opened}
 use Rattle.packing.proofs.Tests.{each_cons}
 use Rattle.ledger.specs.Rows.{places}

@@ -1,8 +1,8 @@
 -- What is promised of the lines of rows whose numbers rise from 1, behind so many pages: where a page opens, and under which number. ../proofs/Lined
 -- shows it of every list of such rows.
-use Rattle.std.specs.Prelude.{◌≡◌, ℕ, zero, suc, ◌+◌, ◌/◌, ◌%◌, length}
+use Rattle.std.specs.Prelude.{◌≡◌, ℕ, zero, suc, ◌+◌, ◌/◌, ◌%◌, length, if◌then◌else◌}
 use mathlib.Core.List.{List, [], ◌∷◌, ◌++◌, map, flatten}
-use Rattle.packing.specs.Prelude.{◌=?◌, if◌then◌else◌}
+use Rattle.packing.specs.Prelude.{◌=?◌}
 use Rattle.pages.specs.Pages.{Row, Line, page, bin, lines, page_numbers, rows_on}
 
 -- so many numbers, rising from the first

@@ -1,6 +1,6 @@
 -- The walk over the words of both rows: one sound tried beside one picture, and all of them.
-use Rattle.std.specs.Prelude.{get_or, set}
-use Rattle.packing.specs.Prelude.{ℕ, suc, ◌+◌, ◌%◌, ◌≤◌, ◌<◌, ◌≡◌, List, map, reverse, length, take}
+use Rattle.std.specs.Prelude.{get_or, set, ◌+◌, ◌%◌, ◌≤◌, ◌<◌, ◌≡◌}
+use Rattle.packing.specs.Prelude.{ℕ, suc, List, map, reverse, length, take}
 use Rattle.packing.specs.Limits.{most_rows}
 use Rattle.packing.specs.Bins.{Item}
 use Rattle.ordering.specs.declared.Order.TheVariants.{SmallestFirst}

@@ -1,6 +1,8 @@
--- Laws on lists and numbers that the walks use.
-use Rattle.plan.proofs.Logic.{◌≡◌, refl, sym, ◌∙◌, ℕ, min, ◌<◌, dec_le, arith, List, length, take, take_all}
-use Rattle.packing.specs.declared.{PlanResult.PlanResult}
+-- Where the walk over the entries ends, and what is found there.
+use Rattle.std.proofs.Common.{◌≡◌, refl, ℕ, ◌<◌, ◌≤◌, arith, List, length}
+use Rattle.packing.specs.declared.{Entry.Entry, PlanResult.PlanResult}
+use Rattle.packing.specs.Plans.{check}
+use Rattle.plan_rows.proofs.Checking.{Checking, checking_passed, checking_refused}
 use Rattle.plan.specs.Ends.{rows_to_walk}
 
 -- the walk goes on where nothing is refused and an entry is left
@@ -8,9 +10,9 @@ pub goes_on : (found : PlanResult) (n i : ℕ) → i < rows_to_walk found n → 
 goes_on PlanResult.Passed n i h = (refl, h)
 goes_on (PlanResult.Refused reason place) n i h = absurd (omega arith)
 
--- taking more than there are takes all
-pub take_min : {X : Type 0} (xs : List X) (n m : ℕ) → length xs ≡ m → take (min n m) xs ≡ take n xs
-take_min xs n m e = elim (dec_le n m) [
-  | yes h ↦ let q : min n m ≡ n = omega arith in rw q
-  | no h ↦ let q : min n m ≡ m = omega arith in rw q (take_all m xs (omega arith) ∙ sym (take_all n xs (omega arith)))
-]
+-- where it has ended, what is found is the check's answer
+pub ended : (capacity k : ℕ) (plan : List Entry) (items loads : List ℕ) (i : ℕ) (found : PlanResult) → Checking capacity k plan items loads i found
+    → rows_to_walk found (length plan) ≤ i → found ≡ check capacity k plan items
+ended capacity k plan items loads i PlanResult.Passed g h = checking_passed capacity k plan items loads i PlanResult.Passed g refl h
+ended capacity k plan items loads i (PlanResult.Refused reason place) g h =
+    checking_refused capacity k plan items loads i (PlanResult.Refused reason place) g reason place refl

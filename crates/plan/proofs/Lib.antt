@@ -1,6 +1,2 @@
--- What the walks by hand rest on.
-pub mod Logic
-pub mod Locals
-pub mod Calls
-pub mod Types
+-- What the walk over the entries rests on.
 pub mod Ends

@@ -9,6 +9,7 @@ use limits::{MOST_CAPACITY, MOST_ROWS};
 use packing::{PlanReason, PlanResult};
 
 // What 12 asks: neither k nor a length is above the most.
+#[tactic(auto, unfolding(packing::specs::Prelude::any))]
 fn lengths_good(k: usize, rows: usize, items: usize) -> bool
     ensures { result ≡ lengths_good (k ∷ rows ∷ items ∷ []) }
 {
@@ -25,6 +26,7 @@ fn lengths_good(k: usize, rows: usize, items: usize) -> bool
 }
 
 // 11, 12, 16; passed where none of them refuses.
+#[tactic(auto, unfolding(packing::specs::Plans::limits))]
 pub fn check_limits(capacity: u32, k: u32, rows: usize, items: usize) -> PlanResult
     ensures { result ≡ limits capacity k rows items }
 {

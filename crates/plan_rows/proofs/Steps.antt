@@ -57,7 +57,7 @@ module _ (capacity k : ℕ) (loads : List ℕ) (e : Entry) (items : List ℕ) (i
 
     stands : (before : List Entry) → LoadsOf loads before → LoadsOf exit (e ∷ before)
     stands before r n l = elim (ℕ_discrete n e.bin) [
-      | yes q ↦ rw (q, get_or-set_same loads e.bin sum 0 inside) (sym (summed loads e low before r))
+      | yes q ↦ ap (λ (m : ℕ). get_or exit m 0) q ∙ get_or-set_same loads e.bin sum 0 inside ∙ sym (summed loads e low before r) ∙ ap (λ (m : ℕ). on_bin m (e ∷ before)) (sym q)
       | no q ↦ get_or-set_other loads e.bin n sum 0 q ∙ r n l ∙ sym (on_other n e before (λ p. q (sym p)))
     ]
 

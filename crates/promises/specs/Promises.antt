@@ -1,6 +1,7 @@
 -- What the public call promises of a stream beyond its result and its rows, which are equations: a field a promise. The statements themselves are in the
 -- specs of packing, alike and worst_case. Proved in ../proofs/Promises.antt.
-use Rattle.packing.specs.Prelude.{ℕ, ◌≡◌, List}
+use Rattle.std.specs.Prelude.{◌≡◌}
+use Rattle.packing.specs.Prelude.{ℕ, List}
 use Rattle.packing.specs.declared.{Opening.Opening, Production.Production, Command.Command}
 use Rattle.packing.specs.Streams.{accepted, verdict}
 use Rattle.packing.specs.Claims.{HoldsAnswered, NeverOverfull, TrueSizesFit, LowestPermitted, FreeUnits, Looks, LoadsAddUp, Withdrawals, Settlings, Stays, AnswersInRange, Opened, Counts, Productions}
@@ -44,7 +45,7 @@ pub record OfOne (o : Opening) (q : Production) (cs : List Command) : Type 0 whe
   -- Nor is one for any true sizes of the unsettled items within their ranges.
   pub true_sizes_fit : TrueSizesFit o q cs
   -- The free units beside an answer are those of its bin, until an item goes there, leaves it or is settled there.
-  pub free_units_lem : FreeUnits o q cs
+  pub free_units : FreeUnits o q cs
   -- The loads add up to the stored sizes still shelved, each as it is settled, or its greatest till then.
   pub loads_add_up : LoadsAddUp o q cs
   -- A bin keeps its number and class, and no B2 is uncounted.

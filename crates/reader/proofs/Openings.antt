@@ -10,7 +10,7 @@ use lib.Seq.{drop-drop}
 use borrow.Author.Tests.{eqb-true, eq-eqb, ne_eqb}
 use Rattle.packing.specs.declared.{Opening.Opening, Command.Command}
 use Rattle.packing.specs.Streams.{is_opening, opening_width, first_byte, widths, lookup, operand, opening_of}
-use Rattle.packing.specs.Prelude.{if◌then◌else◌}
+use Rattle.std.specs.Prelude.{if◌then◌else◌}
 use Rattle.packing.specs.Claims.{WholeStream}
 use Rattle.fronts.specs.Fronts.{table_width}
 use Rattle.reader.specs.Reading.{Opened}

@@ -7,7 +7,8 @@ use native.Mathlib.Omega.{arith}
 use borrow.Author.Tests.{leb-true, leb-false, le-leb, lt-leb, ltb-true, ltb-false, lt-ltb, le-ltb}
 use lib.Dec.{leb, ltb}
 use lib.ListN.{length, get_or, replicate, set, length-map}
-use Rattle.packing.specs.Prelude.{if◌then◌else◌, total}
+use Rattle.std.specs.Prelude.{if◌then◌else◌}
+use Rattle.packing.specs.Prelude.{total}
 use Rattle.packing.specs.Bins.{Item, Bin, Packing, load, add}
 use Rattle.packing.specs.Placing.{first_fit, put}
 use Rattle.packing.proofs.Tests.{clash}

@@ -1,6 +1,6 @@
 -- The items of a row's words packed one after the other.
-use Rattle.std.specs.Prelude.{◌/◌, get_or}
-use Rattle.packing.specs.Prelude.{ℕ, ◌%◌, ◌≤◌, ◌<◌, ◌≡◌, List, map, foldl, length, take}
+use Rattle.std.specs.Prelude.{◌/◌, get_or, ◌%◌, ◌≤◌, ◌<◌, ◌≡◌}
+use Rattle.packing.specs.Prelude.{ℕ, List, map, foldl, length, take}
 use Rattle.packing.specs.Limits.{most_capacity, most_rows}
 use Rattle.packing.specs.Bins.{Item, empty, opened}
 use Rattle.decreasing.specs.Repack.{next}

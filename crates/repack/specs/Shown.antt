@@ -1,5 +1,6 @@
 -- The tree of a repacking shows the free space of the bins, one a place in order of opening, and 0 where none is opened.
-use Rattle.packing.specs.Prelude.{ℕ, ◌-◌, ◌≤◌, ◌<◌, max, ◌≡◌, List, ◌++◌, map, replicate, Memᴰ}
+use Rattle.std.specs.Prelude.{◌-◌, ◌≤◌, ◌<◌, ◌≡◌, ◌++◌}
+use Rattle.packing.specs.Prelude.{ℕ, max, List, map, replicate, Memᴰ}
 use Rattle.packing.specs.Bins.{Item, Bin, Packing, opened, load}
 use Rattle.tournament.specs.declared.Shape.{Shape}
 use Rattle.tournament.specs.Trees.{leaves, Tree}

@@ -1,9 +1,9 @@
 -- "Worked shelves", last paragraph: what `shelve` prints, as a row of bytes in ASCII.
-use Rattle.std.specs.Prelude.{List, [], ◌∷◌, ◌++◌, ℕ, ◌+◌, length}
+use Rattle.std.specs.Prelude.{List, [], ◌∷◌, ◌++◌, ℕ, ◌+◌, length, if◌then◌else◌}
 use Prim.Native.Char.{code}
 use Rattle.packing.specs.declared.{Opening.Opening, Command.Command, StreamReason.StreamReason}
 use Rattle.packing.specs.declared.Production.TheVariants.{First, Second}
-use Rattle.packing.specs.Prelude.{◌<?◌, if◌then◌else◌}
+use Rattle.packing.specs.Prelude.{◌<?◌}
 use Rattle.packing.specs.Limits.{most_commands}
 use Rattle.packing.specs.Refusals.{stream_number}
 use Rattle.packing.specs.Bins.{opened}

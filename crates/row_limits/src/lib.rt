@@ -27,6 +27,7 @@ fn check_sizes(sizes: &[u32], capacity: u32, first: usize) -> RowResult
 }
 
 // 11, and 12 where the longest row has so many sizes.
+#[tactic(auto, unfolding(packing::specs::Rows::check_limits))]
 fn check_limits(capacity: u32, longest: usize) -> RowResult
     ensures { result ≡ check_limits capacity longest }
 {
@@ -54,6 +55,7 @@ fn check_words(needed: usize, words: usize) -> RowResult
 }
 
 // All four, where so many answer words are lent.
+#[tactic(auto, unfolding(packing::specs::Rows::check_row))]
 pub fn check_row(sizes: &[u32], words: usize, capacity: u32) -> RowResult
     ensures { result ≡ check_row capacity words sizes.now }
 {

@@ -10,7 +10,8 @@ use native.Mathlib.Decide.{dec_le}
 use Rattle.packing.specs.declared.{Opening.Opening, Command.Command, ItemReason.ItemReason}
 use Rattle.packing.specs.declared.Command.TheVariants.{Shelve, Count, Withdraw, Switch, Reserve, Settle}
 use Rattle.packing.specs.declared.ItemReason.TheVariants.{SizeZero, RangeWrong}
-use Rattle.packing.specs.Prelude.{if◌then◌else◌, ◌≤?◌}
+use Rattle.std.specs.Prelude.{if◌then◌else◌}
+use Rattle.packing.specs.Prelude.{◌≤?◌}
 use Rattle.packing.specs.Limits.{within}
 use Rattle.packing.specs.Bins.{stored}
 use Rattle.packing.specs.Sending.{size_of, least_of, fault}

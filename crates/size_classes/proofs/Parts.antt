@@ -8,7 +8,8 @@ use borrow.Author.Tests.{ltb-true, ltb-false, lt-ltb, le-ltb}
 use lib.Dec.{ltb}
 use Rattle.packing.specs.declared.PerClass.{PerClass}
 use Rattle.packing.specs.declared.SizeClass.TheVariants.{A, B1, B2, X}
-use Rattle.packing.specs.Prelude.{◌<?◌, if◌then◌else◌}
+use Rattle.std.specs.Prelude.{if◌then◌else◌}
+use Rattle.packing.specs.Prelude.{◌<?◌}
 use Rattle.packing.specs.SizeClasses.{size_class, number_of}
 
 -- Two tests that hold and fail together are one.

@@ -1,8 +1,8 @@
 // "Size classes": the class of an item, as the number that the caller has for it.
 #![tactic(auto)]
 
-ghost use Rattle.std.specs.Prelude.{◌≡◌};
-ghost use Rattle.packing.specs.Prelude.{◌<?◌, if◌then◌else◌};
+ghost use Rattle.std.specs.Prelude.{◌≡◌, if◌then◌else◌};
+ghost use Rattle.packing.specs.Prelude.{◌<?◌};
 ghost use Rattle.packing.specs.SizeClasses.{size_class, number_of};
 
 use packing::PerClass;

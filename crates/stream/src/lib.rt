@@ -4,7 +4,7 @@
 ghost use Rattle.std.specs.Prelude.{◌≡◌, replicate};
 ghost use Rattle.packing.specs.Refusals.{word, free_units};
 ghost use Rattle.packing.specs.Streams.{words_lent, verdict};
-ghost use Rattle.packing.specs.Run.{result, row_at_exit};
+ghost use Rattle.packing.specs.Run.{result as run_result, row_at_exit};
 ghost use Rattle.ledger.specs.Rows.{places, blank};
 ghost use Rattle.stream.specs.Recorded.{Recorded};
 
@@ -24,10 +24,10 @@ pub fn record(
 ) -> StreamResult
     requires first { first.old ≡ replicate places blank }
     requires second { second.old ≡ replicate places blank }
-    ensures* result { λ r. ⌜ r ≡ result (verdict stream.now (words_lent answers.old free.old)) ⌝ }
-    ensures* answers { λ _. ⌜ answers.new ≡ row_at_exit word (verdict stream.now (words_lent answers.old free.old)) answers.old ⌝ }
-    ensures* free { λ _. ⌜ free.new ≡ row_at_exit free_units (verdict stream.now (words_lent answers.old free.old)) free.old ⌝ }
-    ensures* recorded { λ _. ⌜ Recorded (verdict stream.now (words_lent answers.old free.old)) first.new second.new ⌝ }
+    ensures result { result ≡ run_result (verdict stream.now (words_lent answers.old free.old)) }
+    ensures answers { answers.new ≡ row_at_exit word (verdict stream.now (words_lent answers.old free.old)) answers.old }
+    ensures free { free.new ≡ row_at_exit free_units (verdict stream.now (words_lent answers.old free.old)) free.old }
+    ensures recorded { Recorded (verdict stream.now (words_lent answers.old free.old)) first.new second.new }
 {
     match reader::validate(stream) {
         Summary::Refused(reason, offset) => StreamResult::Refused { reason, offset },
@@ -56,9 +56,9 @@ pub fn record(
 
 // The same where nobody asks for the packings: the ledgers live here.
 pub fn shelve(stream: &[u8], answers: &mut [u16], free: &mut [u32]) -> StreamResult
-    ensures* result { λ r. ⌜ r ≡ result (verdict stream.now (words_lent answers.old free.old)) ⌝ }
-    ensures* answers { λ _. ⌜ answers.new ≡ row_at_exit word (verdict stream.now (words_lent answers.old free.old)) answers.old ⌝ }
-    ensures* free { λ _. ⌜ free.new ≡ row_at_exit free_units (verdict stream.now (words_lent answers.old free.old)) free.old ⌝ }
+    ensures result { result ≡ run_result (verdict stream.now (words_lent answers.old free.old)) }
+    ensures answers { answers.new ≡ row_at_exit word (verdict stream.now (words_lent answers.old free.old)) answers.old }
+    ensures free { free.new ≡ row_at_exit free_units (verdict stream.now (words_lent answers.old free.old)) free.old }
 {
     let mut first = [[0u32; COLUMNS]; BINS];
     let mut second = [[0u32; COLUMNS]; BINS];

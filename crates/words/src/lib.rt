@@ -1,9 +1,9 @@
 // The words of an answer in both rows, and the answer that they stand for.
 #![tactic(auto)]
 
-ghost use Rattle.std.specs.Prelude.{◌≡◌, ◌-◌};
+ghost use Rattle.std.specs.Prelude.{◌≡◌, ◌-◌, if◌then◌else◌};
 ghost use Rattle.packing.specs.declared.Outcome.TheVariants.{Refused};
-ghost use Rattle.packing.specs.Prelude.{◌<?◌, if◌then◌else◌};
+ghost use Rattle.packing.specs.Prelude.{◌<?◌};
 ghost use Rattle.packing.specs.Productions.{production_of};
 ghost use Rattle.packing.specs.Refusals.{word, free_units, item_reason, outcome_of};
 

@@ -7,7 +7,8 @@ use mathlib.Core.List.{List, [], ◌∷◌, map}
 use native.Mathlib.Omega.{arith}
 use lib.Dec.{eqb}
 use Rattle.packing.specs.declared.{Opening.Opening, Production.Production, Command.Command, Entry.Entry}
-use Rattle.packing.specs.Prelude.{if◌then◌else◌, total, keep}
+use Rattle.std.specs.Prelude.{if◌then◌else◌}
+use Rattle.packing.specs.Prelude.{total, keep}
 use Rattle.packing.specs.Plans.{on_bin}
 use Rattle.packing.specs.Compared.{shelf_plan, sizes_in}
 use Rattle.packing.proofs.Holding.{shown_few}

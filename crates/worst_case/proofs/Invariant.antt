@@ -10,7 +10,8 @@ use borrow.Author.Tests.{eqb-true, eqb-false}
 use lib.Dec.{eqb}
 use Rattle.packing.specs.declared.{Opening.Opening, SizeClass.SizeClass, Command.Command}
 use Rattle.packing.specs.declared.SizeClass.TheVariants.{A, B1, B2, X}
-use Rattle.packing.specs.Prelude.{if◌then◌else◌, any}
+use Rattle.std.specs.Prelude.{if◌then◌else◌}
+use Rattle.packing.specs.Prelude.{any}
 use Rattle.packing.specs.SizeClasses.{count_b2}
 use Rattle.packing.specs.Bins.{Item, Bin, Packing, empty, kind}
 use Rattle.packing.specs.Placing.{Target, to_class, beside_a, class_of, target_of, placed}

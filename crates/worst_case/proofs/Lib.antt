@@ -32,4 +32,5 @@ pub mod Bound
 -- Demand 3, and that the constant 5 is exact.
 pub mod TraceBound
 pub mod WorstCase
+pub mod WorstCaseOfStream
 pub mod ExactFive

@@ -7,7 +7,8 @@ use native.Mathlib.Omega.{arith}
 use borrow.Author.Tests.{eqb-true, eqb-false, eq-eqb, ne_eqb, leb-true, leb-false}
 use lib.Dec.{eqb, leb}
 use Rattle.packing.specs.declared.{Opening.Opening}
-use Rattle.packing.specs.Prelude.{if◌then◌else◌, any}
+use Rattle.std.specs.Prelude.{if◌then◌else◌}
+use Rattle.packing.specs.Prelude.{any}
 use Rattle.packing.specs.SizeClasses.{is_a}
 use Rattle.packing.specs.Bins.{Item, Bin, load, kind, holds_a}
 use Rattle.packing.specs.Placing.{Target, to_class, beside_a, class_of, put, permitted}

@@ -7,7 +7,8 @@ use native.Mathlib.Omega.{arith}
 use borrow.Author.Tests.{eqb-true, eqb-false}
 use lib.Dec.{eqb}
 use Rattle.packing.specs.declared.{Entry.Entry, PlanResult.PlanResult}
-use Rattle.packing.specs.Prelude.{if◌then◌else◌, any}
+use Rattle.std.specs.Prelude.{if◌then◌else◌}
+use Rattle.packing.specs.Prelude.{any}
 use Rattle.packing.specs.Plans.{check}
 use Rattle.packing.specs.Compared.{used}
 use Rattle.worst_case.proofs.Above.{bit}

@@ -10,7 +10,8 @@ use borrow.Author.Tests.{eqb-true, eq-eqb}
 use lib.Dec.{eqb}
 use lib.ListN.{length}
 use Rattle.packing.specs.declared.{Entry.Entry, PlanResult.PlanResult}
-use Rattle.packing.specs.Prelude.{if◌then◌else◌, total, any}
+use Rattle.std.specs.Prelude.{if◌then◌else◌}
+use Rattle.packing.specs.Prelude.{total, any}
 use Rattle.packing.specs.Plans.{on_bin, check}
 use Rattle.packing.specs.Compared.{used}
 use Rattle.worst_case.proofs.Lists.{weigh, sum}

@@ -10,11 +10,9 @@ use lib.ListN.{take}
 use Rattle.packing.specs.declared.{Opening.Opening, Production.Production, Command.Command}
 use Rattle.packing.specs.Prelude.{any}
 use Rattle.packing.specs.Limits.{opening_good}
-use Rattle.packing.specs.Streams.{accepted, verdict}
 use Rattle.packing.specs.Run.{steps}
 use Rattle.packing.specs.Compared.{is_altered}
 use Rattle.packing.proofs.Moves.{trace}
-use Rattle.packing.proofs.Accepted.{accepted_whole}
 use Rattle.worst_case.specs.WorstCase.{WorstCase}
 use Rattle.worst_case.proofs.TraceBound.{trace_five}
 
@@ -22,8 +20,3 @@ pub worst_case : (C : ℕ) → 5 ≤ C → (o : Opening) (q : Production) (cs : 
 worst_case C enough o q cs good j k plan none ok =
     omega
     (arith, trace_five o (trace o q (take j cs)) (not-true (any (λ t. is_altered t.outcome) (steps o q (take j cs))) none) k plan ok good)
-
--- Of both productions of every accepted stream.
-pub worst_case_of_stream : (C : ℕ) → 5 ≤ C → (stream : List ℕ) (words : ℕ) (o : Opening) (q : Production) (cs : List Command) → verdict stream words ≡ accepted o cs
-    → WorstCase C o q cs
-worst_case_of_stream C enough stream words o q cs h = worst_case C enough o q cs (accepted_whole words o cs stream h).opening_is_good

@@ -1,7 +1,8 @@
 -- "The engine's own answers, with the accepted sizes in order and k the number opened, are passed": "the shelf's plan" is "of masters still shelved", with
 -- "settled sizes, or the greatest till then", and k goes by every bin ever opened. "Plans are checked production by production": each production's own plan
 -- is passed. Proved in ../proofs/OwnPlan.antt.
-use Rattle.packing.specs.Prelude.{◌≡◌, List}
+use Rattle.std.specs.Prelude.{◌≡◌}
+use Rattle.packing.specs.Prelude.{List}
 use Rattle.packing.specs.declared.{Opening.Opening, Production.Production, Command.Command, PlanResult.PlanResult}
 use Rattle.packing.specs.Plans.{check}
 use Rattle.packing.specs.Compared.{number_opened, shelf_plan, shelved_sizes}

@@ -2,7 +2,8 @@
 -- the opened count to be at most 5k + 12, for the same streams and plans as the older figure"), and 5 is the least that holds (ExactFive). Proved in
 -- ../proofs/WorstCase.antt for every C from 5 up, of every opening within its limits, of both productions and of every list of commands, refused ones
 -- included.
-use Rattle.packing.specs.Prelude.{ℕ, ◌+◌, ◌*◌, ◌≤◌, ◌≡◌, true, List, take}
+use Rattle.std.specs.Prelude.{◌+◌, ◌*◌, ◌≤◌, ◌≡◌}
+use Rattle.packing.specs.Prelude.{ℕ, true, List, take}
 use Rattle.packing.specs.declared.{Opening.Opening, Production.Production, Command.Command, Entry.Entry, PlanResult.PlanResult}
 use Rattle.packing.specs.Plans.{check}
 use Rattle.packing.specs.Compared.{accepted_sizes, number_opened, none_altered, used}

@@ -12,7 +12,8 @@ use lib.Dec.{eqb, leb, ltb}
 use lib.ListN.{length, length-append}
 use Rattle.packing.specs.declared.{Opening.Opening, SizeClass.SizeClass}
 use Rattle.packing.specs.declared.SizeClass.TheVariants.{A, B1, B2, X}
-use Rattle.packing.specs.Prelude.{if◌then◌else◌, total}
+use Rattle.std.specs.Prelude.{if◌then◌else◌}
+use Rattle.packing.specs.Prelude.{total}
 use Rattle.packing.specs.SizeClasses.{size_class, count_b2}
 use Rattle.packing.specs.Bins.{Item, Bin, Packing, empty, opened, load, add, kind}
 use Rattle.packing.specs.Placing.{to_class, class_of, target_of, permitted, target, has_space, first_fit, put, takes, bin_for, spent, placed}

@@ -9,7 +9,8 @@ use borrow.Author.Tests.{eqb-true, leb-true, ne_eqb}
 use lib.Dec.{eqb, leb, ltb}
 use lib.ListN.{length, replicate, length-append, length-map, length-replicate}
 use Rattle.packing.specs.declared.{Entry.Entry, PlanResult.PlanResult}
-use Rattle.packing.specs.Prelude.{if◌then◌else◌, total}
+use Rattle.std.specs.Prelude.{if◌then◌else◌}
+use Rattle.packing.specs.Prelude.{total}
 use Rattle.packing.specs.Limits.{most_rows}
 use Rattle.packing.specs.Plans.{on_bin, check}
 use Rattle.packing.proofs.Tests.{both_true, each_cons, each_append}

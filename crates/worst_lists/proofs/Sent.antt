@@ -12,7 +12,8 @@ use lib.ListN.{length, length-append}
 use Rattle.packing.specs.declared.{Opening.Opening, SizeClass.SizeClass}
 use Rattle.packing.specs.declared.Production.TheVariants.{First}
 use Rattle.packing.specs.declared.Command.TheVariants.{Shelve}
-use Rattle.packing.specs.Prelude.{if◌then◌else◌, any}
+use Rattle.std.specs.Prelude.{if◌then◌else◌}
+use Rattle.packing.specs.Prelude.{any}
 use Rattle.packing.specs.Refusals.{is_refused}
 use Rattle.packing.specs.Bins.{Item, Packing, empty, opened, stored, kind}
 use Rattle.packing.specs.Placing.{into, bin_for, spent, decision, placed}

@@ -1,6 +1,7 @@
 -- The most by k: no production opens more where a plan uses k bins, and for every k from 1 to the stock and every m a list opens as many. Proved in
 -- ../proofs/EveryK.antt, by demand 3 with the constant 5, and by computing over the lists.
-use Rattle.packing.specs.Prelude.{ℕ, ◌≤◌, ◌<◌, ◌≡◌, true, List, map, length, take, Memᴰ}
+use Rattle.std.specs.Prelude.{◌≤◌, ◌<◌, ◌≡◌}
+use Rattle.packing.specs.Prelude.{ℕ, true, List, map, length, take, Memᴰ}
 use Rattle.packing.specs.declared.{Opening.Opening, Production.Production, Command.Command, Entry.Entry, PlanResult.PlanResult}
 use Rattle.packing.specs.declared.Production.TheVariants.{First}
 use Rattle.packing.specs.declared.Command.TheVariants.{Shelve}

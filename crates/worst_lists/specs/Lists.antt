@@ -3,8 +3,8 @@
 -- In the plan every bin has an item just above a half. The first two have a B1 and a B2 beside it, each with a small item that fills the bin; each of the
 -- others that have more has two items near a quarter, one on either side of it. The method puts the B1, the B2 and the items near a quarter into bins of
 -- their own classes, the latter three to a bin: the excess of each bin shuts out all that come later.
-use Rattle.std.specs.Prelude.{◌/◌}
-use Rattle.packing.specs.Prelude.{ℕ, zero, suc, ◌+◌, ◌-◌, ◌*◌, min, List, [], ◌∷◌, ◌++◌, flatten, replicate, true, false, ◌<?◌}
+use Rattle.std.specs.Prelude.{◌/◌, ◌+◌, ◌-◌, ◌*◌, ◌∷◌, ◌++◌}
+use Rattle.packing.specs.Prelude.{ℕ, zero, suc, min, List, [], flatten, replicate, true, false, ◌<?◌}
 use Rattle.packing.specs.declared.{Opening.Opening, Entry.Entry}
 
 -- The stock is the largest there is; every m will do.

@@ -1,6 +1,6 @@
 -- A list of sizes as a stream: the opening 01, and a command 02 for each.
-use Rattle.std.specs.Prelude.{◌/◌}
-use Rattle.packing.specs.Prelude.{ℕ, ◌%◌, List, [], ◌∷◌, ◌++◌, map, flatten}
+use Rattle.std.specs.Prelude.{◌/◌, ◌%◌, ◌∷◌, ◌++◌}
+use Rattle.packing.specs.Prelude.{ℕ, List, [], map, flatten}
 use Rattle.packing.specs.declared.{Opening.Opening}
 
 -- Numbers of four bytes and of two, the most significant first.

@@ -3,7 +3,7 @@ use Rattle.std.proofs.Common.{◌≡◌, ℕ, ◌+◌, ◌<◌, List, sym, ap, �
 use Rattle.packing.specs.SizeClasses.{size_class, number_of}
 use Rattle.packing.specs.declared.Command.{Command}
 use Rattle.packing.specs.declared.ItemReason.TheVariants.{StockSpent}
-use Rattle.packing.specs.Prelude.{if◌then◌else◌}
+use Rattle.std.specs.Prelude.{if◌then◌else◌}
 use Rattle.packing.specs.Bins.{Packing, stored}
 use Rattle.packing.specs.Placing.{refusing, decision}
 use Rattle.packing.specs.Looks.{height, fits}
