@@ -6,3 +6,4 @@ pub mod Listing
 pub mod Bins
 pub mod Ledgers
 pub mod Forty
+pub mod Worked

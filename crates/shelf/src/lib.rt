@@ -57,7 +57,7 @@ pub fn repack(sizes: &[u32], answers: &mut [u16], capacity: u32, old: u32) -> Re
     ensures result { repack_gives result ≡ repack_gives (repack_result capacity sizes.now old (check_row capacity (length answers.old) sizes.now)) }
     ensures answers { answers.new ≡ answers_at_exit capacity sizes.now (check_row capacity (length answers.old) sizes.now) answers.old }
     ensures exact { (check_row capacity (length answers.old) sizes.now ≡ RowResult.Sound) ↔ SoundRow capacity (length answers.old) sizes.now }
-    ensures promises { (check_row capacity (length answers.old) sizes.now ≡ RowResult.Sound → RepackPromises capacity sizes.now) }
+    ensures promises { check_row capacity (length answers.old) sizes.now ≡ RowResult.Sound → RepackPromises capacity sizes.now }
 {
     repack::repack(sizes, answers, capacity, old)
 }

@@ -63,7 +63,7 @@ pub extern "C" fn shelf_repack(sizes: &[u32], answers: &mut [u16], capacity: u32
     ensures code { result ≡ repack_code (repack_result capacity sizes.now old (check_row capacity (length answers.old) sizes.now)) }
     ensures fits { RepackFits (repack_result capacity sizes.now old (check_row capacity (length answers.old) sizes.now)) }
     ensures answers { answers.new ≡ answers_at_exit capacity sizes.now (check_row capacity (length answers.old) sizes.now) answers.old }
-    ensures promises { (check_row capacity (length answers.old) sizes.now ≡ RowResult.Sound → RepackPromises capacity sizes.now) }
+    ensures promises { check_row capacity (length answers.old) sizes.now ≡ RowResult.Sound → RepackPromises capacity sizes.now }
 {
     let r = shelf::repack(sizes, answers, capacity, old);
     codes::repack_code(r)

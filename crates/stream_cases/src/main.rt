@@ -136,12 +136,7 @@ fn take_number(
 }
 
 // Takes a line, with so many digits in the stream, and answers how many it then has.
-fn take_line(
-    rt: &impl Print,
-    s: &mut [u8; SPACE],
-    digits: usize,
-    line: &[u8],
-) -> io::Result<usize>
+fn take_line(rt: &impl Print, s: &mut [u8; SPACE], digits: usize, line: &[u8]) -> io::Result<usize>
     requires { 1 ≤ length line.now }
 {
     match line[0] {

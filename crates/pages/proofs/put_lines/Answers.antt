@@ -1,0 +1,15 @@
+-- `put_lines` meets its contract: each turn writes the lines of the next bin.
+use Rattle.pages.proofs.Listing.{listing_start, listing_enterable, listing_next, listing_end}
+use Rattle.pages.proofs.put_lines.Goals as goal
+
+pub loop-place-init : goal.loop-place-init
+loop-place-init c = listing_start c.requires
+
+pub put_entry-end-requires : goal.put_entry-end-requires
+put_entry-end-requires c = listing_enterable c.loop-place.invariant c.loop-place-test.true
+
+pub loop-place-preserved : goal.loop-place-preserved
+loop-place-preserved c = listing_next c.loop-place.invariant c.loop-place-test.true _ _ c.put_entry-end.ensures
+
+pub returns : goal.returns
+returns c = listing_end c.loop-place.invariant c.loop-place-test.false
