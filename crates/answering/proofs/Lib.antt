@@ -1,2 +1,2 @@
--- A count and a 05, which leave the store.
+-- A count, which leaves the store.
 pub mod Told

@@ -1,10 +1,10 @@
--- A count and a command 05 are answered: the store stays.
+-- A count is answered: the store stays.
 use mathlib.Core.Path.{refl, ap}
 use Prim.Native.Nat.{ℕ}
 use native.Mathlib.Omega.{arith}
-use Rattle.packing.specs.declared.{Opening.Opening, Production.Production, Tally.Tally}
-use Rattle.packing.specs.declared.Outcome.TheVariants.{Counted, Switched}
-use Rattle.packing.specs.declared.Command.TheVariants.{Count, Switch}
+use Rattle.packing.specs.declared.{Opening.Opening, Tally.Tally}
+use Rattle.packing.specs.declared.Outcome.TheVariants.{Counted}
+use Rattle.packing.specs.declared.Command.TheVariants.{Count}
 use Rattle.tournament.specs.declared.Shape.{Shape}
 use Rattle.ledger.specs.Counting.{Tallied}
 use Rattle.engine.specs.Store.{Store, Sound}
@@ -22,7 +22,3 @@ done_count {o} sound m = record {
   };
   refused = λ reason e. refl;
 }
-
-pub done_switch : {o : Opening} {left : ℕ} {shape : Shape} {w : Store} {number : ℕ} (q : Production) → Sound o shape w
-    → Done o left shape w number (Switch q) (answering number (Switched q)) 0 w
-done_switch q sound = record { sound = sound; numbered = refl; model = λ p r. record { answered = refl; looked = refl; represents = r }; refused = λ reason e. refl }

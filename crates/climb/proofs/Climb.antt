@@ -99,11 +99,6 @@ module _ {b : ℕ} {shape : Shape} {t : List ℕ} {place value : ℕ} (tree : Tr
   }
 
 module _ {b places : ℕ} {s t : List ℕ} {n w v : ℕ} (c : Climb b places s t n w v) (l : 1 < n) where
-  pub sibling_inside : b + sibling n < row_words
-  sibling_inside =
-      let child : sibling n ≤ 2 * (n / 2) + 1 = omega arith in
-      omega (arith, c.high, c.room)
-
   -- The parent takes the larger of its children.
   pub climb_next : (x : ℕ) → x ≡ max v (node t b (sibling n)) → Climb b places s (set t (b + n / 2) x) (n / 2) (node t b (n / 2)) x
   climb_next x e =

@@ -2,7 +2,7 @@
 -- so far to those at the end.
 use mathlib.Core.Path.{◌≡◌, refl, sym, ◌∙◌, ap}
 use mathlib.Core.List.{List, [], ◌∷◌, map, reverse}
-use Prim.Native.Nat.{ℕ, suc, ◌+◌, ◌-◌, ◌/◌, ◌%◌, ◌≤◌, ◌<◌}
+use Prim.Native.Nat.{ℕ, suc, ◌+◌, ◌-◌, ◌%◌, ◌≤◌, ◌<◌}
 use native.Mathlib.Omega.{arith}
 use native.Mathlib.Decide.{dec_le}
 use lib.ListN.{length, take, drop, get_or, set, length-set}
@@ -13,16 +13,6 @@ use Rattle.matching.specs.Pairs.{Pair, matched}
 use Rattle.matching.specs.Written.{written}
 use Rattle.matching.proofs.Steps as steps
 use Rattle.pairs.specs.Walked.{item, Tried, pairs_of, Walkable, Walked}
-
--- One sound beside one picture: too large, or paired.
-module _ (c picture sound : ℕ) (row : List ℕ) where
-  pub not_paired : c < picture / 4096 + 1 + (sound / 4096 + 1) → Tried c picture sound row 0 row
-  not_paired h = record { few = omega arith; paired = λ l. absurd (omega arith); passed = λ l. (refl, refl) }
-
-  pub one_paired : picture / 4096 + 1 + (sound / 4096 + 1) ≤ c → Tried c picture sound row 1 (set row (picture % 4096) (sound % 4096 + 1))
-  one_paired h =
-      let place : sound % 4096 + 1 ≡ suc (sound % 4096) = omega arith in
-      record { few = omega arith; paired = λ l. (refl, ap (set row (picture % 4096)) place); passed = λ l. absurd (omega arith) }
 
 module _ (c n m : ℕ) (pictures sounds : List ℕ) where
   -- The pairs still to come, where so many pictures are paired and so many sounds are left.

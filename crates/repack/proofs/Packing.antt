@@ -20,7 +20,7 @@ use Rattle.tournament.proofs.Empty.{zero_tree, zero_place}
 use Rattle.decreasing.specs.Repack.{has_space, next}
 use Rattle.decreasing.specs.Written.{written}
 use Rattle.repack.specs.Words.{item_of}
-use Rattle.repack.specs.Shown.{Shows, Placeable, Placed, Places}
+use Rattle.repack.specs.Shown.{Shows, Placed, Places}
 use Rattle.repack.specs.Packed.{Packable, Packed}
 
 -- A tree of zeros shows that no bin is opened.
@@ -73,16 +73,6 @@ module _ (c n : ℕ) (words row₀ : List ℕ) where
         let in_row : k < length (take n words) = omega (arith, length-take-le n words (omega (arith, g.whole, g.few))) in
         let cut : drop k (take n words) ≡ get_or (take n words) k 0 ∷ drop (suc k) (take n words) = drop-cons (take n words) k 0 in_row in
         rw (cut, get_or-take n words k 0 l, add-one)
-
-    pub underway_placeable : Placeable c shape count (c - here / most_rows) t
-    underway_placeable = record {
-      packing = u.packing;
-      shows = u.shows;
-      some = omega (arith, g.each k l);
-      fits = omega arith;
-      room = omega (arith, u.few, fitted.enough);
-      places_few = few_places c n shape fitted g.few row_words refl;
-    }
 
     module _ {bin : ℕ} {t' : List ℕ} (places : Places c shape count (c - here / most_rows) t bin t') where
       placed : Placed c shape count u.packing (item_of c here) bin t'

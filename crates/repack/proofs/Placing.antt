@@ -1,12 +1,12 @@
 -- One item is placed: the first place of the tree with enough is that of the first bin with space, and the tree then shows the packing with the item.
-use mathlib.Core.Path.{◌≡◌, refl, sym, ap, ◌∙◌}
+use mathlib.Core.Path.{◌≡◌, refl, sym, ap, subst, ◌∙◌}
 use mathlib.Core.Bool.{Bool, true, false, cond}
 use mathlib.Core.List.{List, [], ◌∷◌, ◌++◌, Memᴰ}
 use Prim.Native.Nat.{ℕ, zero, suc, ◌+◌, ◌-◌, ◌≤◌, ◌<◌, max}
 use native.Mathlib.Omega.{arith}
 use borrow.Author.Tests.{leb-true, leb-false, le-leb, lt-leb, ltb-true, ltb-false, lt-ltb, le-ltb}
 use lib.Dec.{leb, ltb}
-use lib.ListN.{length, get_or, replicate, set, length-map}
+use lib.ListN.{length, get_or, replicate, set}
 use Rattle.std.specs.Prelude.{if◌then◌else◌}
 use Rattle.packing.specs.Prelude.{total}
 use Rattle.packing.specs.Bins.{Item, Bin, Packing, load, add}
@@ -18,6 +18,7 @@ use Rattle.tournament.specs.declared.{Shape.Shape, Found.Found}
 use Rattle.tournament.specs.declared.Found.TheVariants.{At, Nothing}
 use Rattle.tournament.specs.Trees.{leaves}
 use Rattle.tournament.specs.LowestFit.{further, lowest_fit}
+use Rattle.tournament.proofs.Fits.{Lowest, Meaning, meaning}
 use Rattle.tournament.proofs.Leaves.{leaves_length}
 use Rattle.climb.specs.Stored.{Stored}
 use Rattle.decreasing.specs.Repack.{has_space}
@@ -163,17 +164,17 @@ module _ (c : ℕ) (i : Item) where
           };
         }
 
--- The first place without a bin shows nothing.
+-- Of what a tree shows.
 module _ {c : ℕ} {shape : Shape} {count : ℕ} {t : List ℕ} {p : Packing} (s : Shows c shape count t p) where
   pub place_count : length (leaves t 0 shape.places) ≡ shape.places
   place_count = leaves_length t 0 shape.places (omega (arith, s.tree.room, s.tree.words))
 
-  pub none_there : get_or (leaves t 0 shape.places) count 0 ≡ 0
-  none_there =
-      let n : length (frees c p.bins) ≡ count = length-map p.bins (λ b. c - load b) ∙ sym s.counted in
-      ap (λ l. get_or l count 0) s.shown ∙ ap (λ k. get_or (frees c p.bins ++ replicate (shape.places - count) 0) k 0) (sym n) ∙ blank (frees c p.bins) (shape.places - count)
-    where
-      blank : (l : List ℕ) (k : ℕ) → get_or (l ++ replicate k 0) (length l) 0 ≡ 0
-      blank [] zero = refl
-      blank [] (suc k) = refl
-      blank (x ∷ l) k = blank l k
+  -- The place that is found is one of the tree's, and has enough.
+  found_lowest : (need : ℕ) {j : ℕ} {f : Found} → f ≡ lowest_fit need (leaves t 0 shape.places) → f ≡ At j → Lowest need (leaves t 0 shape.places) j
+  found_lowest need e at = subst (Meaning need (leaves t 0 shape.places)) (sym e ∙ at) (meaning need (leaves t 0 shape.places))
+
+  pub found_inside : (need : ℕ) {j : ℕ} {f : Found} → f ≡ lowest_fit need (leaves t 0 shape.places) → f ≡ At j → j < shape.places
+  found_inside need e at = omega (arith, (found_lowest need e at).inside, place_count)
+
+  pub found_enough : (need : ℕ) {j : ℕ} {f : Found} → f ≡ lowest_fit need (leaves t 0 shape.places) → f ≡ At j → need ≤ get_or (leaves t 0 shape.places) j 0
+  found_enough need e at = (found_lowest need e at).enough

@@ -92,10 +92,6 @@ pub word_below : (x : Bool) (b l r : ℕ) → cond x (b + 2 * l) (b + 2 * r) ≡
 word_below true b l r = refl
 word_below false b l r = refl
 
--- A leaf that holds enough is the one found below itself.
-pub bottom : {t : List ℕ} {b n need : ℕ} → need ≤ node t b n → First t b n 0 need n
-bottom l = record { low = omega arith; high = omega arith; enough = l; before = λ k x y. absurd (omega arith) }
-
 -- The descent from the root.
 module _ {b : ℕ} {shape : Shape} {t : List ℕ} (tree : Tree b shape t) where
   all_under : (h n : ℕ) → 1 ≤ n → (n + 1) * 2 ^ h ≤ 2 * shape.places → Under t b n h
@@ -111,9 +107,6 @@ module _ {b : ℕ} {shape : Shape} {t : List ℕ} (tree : Tree b shape t) where
 
   root_under : Under t b 1 shape.height
   root_under = all_under shape.height 1 (omega arith) (omega (arith, tree.power))
-
-  pub root_inside : b + 1 < row_words
-  root_inside = omega (arith, tree.power, tree.room, pow_pos shape.height)
 
   count : length (leaves t b shape.places) ≡ shape.places
   count = leaves_length t b shape.places (omega (arith, tree.words, tree.room))

@@ -1,5 +1,5 @@
 -- Powers of two, doubled as long as they stay below the number of bins; and so at most the next power.
-use mathlib.Core.Path.{◌≡◌, refl}
+use mathlib.Core.Path.{◌≡◌}
 use Prim.Native.Nat.{ℕ, zero, suc, ◌+◌, ◌*◌, ◌^◌, ◌≤◌, ◌<◌}
 use native.Mathlib.Nat.{two-pow-succ}
 use native.Mathlib.Numerals.{add-one}
@@ -15,9 +15,6 @@ pub record Growing (bins places height : ℕ) : Type 0 where
   pub few : places ≤ 4096
   pub low : height ≤ 12
   pub least : (k : ℕ) → bins ≤ 2 ^ k → height ≤ k
-
-pub growing_start : (bins : ℕ) → Growing bins 1 0
-growing_start bins = record { power = refl; few = omega arith; low = omega arith; least = λ k l. omega arith }
 
 -- A power of two is above its exponent.
 pub below_power : (h : ℕ) → h < 2 ^ h

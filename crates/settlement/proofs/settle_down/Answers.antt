@@ -8,7 +8,7 @@ pub overflow_add-stored : goal.overflow_add-stored
 overflow_add-stored c = omega (arith, frees c.requires, counted_few c.requires, c.requires.waits.sound.capacity)
 
 pub overflow_sub-freed : goal.overflow_sub-freed
-overflow_sub-freed c = frees c.requires
+overflow_sub-freed c = omega (arith, frees c.requires)
 
 pub overflow_cast-bin : goal.overflow_cast-bin
 overflow_cast-bin c =
