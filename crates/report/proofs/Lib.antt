@@ -1,2 +1,3 @@
--- The laws of the whole text.
+-- The laws of the whole text, and the worked texts.
 pub mod Texts
+pub mod Worked

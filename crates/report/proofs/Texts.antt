@@ -9,11 +9,11 @@ use lib.Seq.{length-take-le}
 use borrow.Author.Tests.{lt-ltb, le-ltb}
 use Rattle.packing.specs.declared.{Opening.Opening, Command.Command, StreamReason.StreamReason, StreamResult.StreamResult}
 use Rattle.packing.specs.declared.Production.TheVariants.{First, Second}
-use Rattle.packing.specs.Refusals.{word, free_units, stream_number}
+use Rattle.packing.specs.Refusals.{stream_number}
 use Rattle.packing.specs.Bins.{opened}
 use Rattle.packing.specs.Streams.{Read, accepted, refused, verdict}
 use Rattle.packing.specs.Limits.{most_commands}
-use Rattle.packing.specs.Run.{packing, answers, still_shelved, result, row_at_exit, most_looks}
+use Rattle.packing.specs.Run.{packing, answers, still_shelved, result, most_looks}
 use Rattle.packing.proofs.Tests.{clash}
 use Rattle.packing.proofs.Limits.{in_limits}
 use Rattle.packing.proofs.Reached.{both_in_stock}
@@ -24,8 +24,7 @@ use Rattle.packing.proofs.Accepted.{accepted_whole}
 use Rattle.text.specs.Lines.{digits, decimal, line}
 use Rattle.text.specs.Writing.{AtFront}
 use Rattle.text.proofs.Lengths.{line_few, long_line_few}
-use Rattle.answer_lines.specs.Lines.{lines, most_of_a_line, most_of_answers}
-use Rattle.answer_lines.specs.Writing.{Listable}
+use Rattle.answer_lines.specs.Lines.{lines, most_of_a_line}
 use Rattle.report.specs.Lines.{answers_text, refusal, most_bytes, overlong, text, printing, printed, most_of_a_refusal}
 
 -- "L 32768" and the newline.
@@ -62,25 +61,6 @@ module _ (made : Opening → List Command → List ℕ) (stream : List ℕ) wher
 
 -- What is returned of an accepted stream tells that it is one, its items, its bins and its looks.
 module _ (stream : List ℕ) (items bins looks : ℕ) (e : StreamResult.Accepted items bins looks ≡ result (verdict stream most_commands)) where
-  -- With its words in both rows and room for each line, an accepted stream can be listed.
-  pub listable : (words row free free_row out : List ℕ) → words ≡ row_at_exit word (verdict stream most_commands) row
-      → free ≡ row_at_exit free_units (verdict stream most_commands) free_row → most_of_answers ≤ length out → Listable stream words free out
-  listable words row free free_row out w f h = go (verdict stream most_commands) refl e
-    where
-      go : (r : Read) → verdict stream most_commands ≡ r → StreamResult.Accepted items bins looks ≡ result r → Listable stream words free out
-      go (accepted o cs) p q =
-          record {
-            opening = o;
-            commands = cs;
-            accepts = p;
-            others = drop (length cs) row;
-            answers = w ∙ ap (λ (r : Read). row_at_exit word r row) p;
-            other_frees = drop (length cs) free_row;
-            frees = f ∙ ap (λ (r : Read). row_at_exit free_units r free_row) p;
-            room = h;
-          }
-      go (refused reason offset) p q = clash (cc)
-
   module _ (o : Opening) (cs : List Command) (accepts : verdict stream most_commands ≡ accepted o cs) where
     returned : StreamResult.Accepted items bins looks ≡ result (accepted o cs)
     returned = e ∙ ap result accepts

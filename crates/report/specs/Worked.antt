@@ -1,21 +1,10 @@
 -- "Worked shelves": what is printed of the sample of document 01, whole, "amended by that column", of two productions that
--- spend one stock, of sizes known within a range, and of the shortest streams.
-use Rattle.std.specs.Prelude.{◌≡◌, refl, ℕ}
-use mathlib.Core.List.{List, [], ◌∷◌, ◌++◌, map, flatten}
+-- spend one stock, of sizes known within a range, and of the shortest streams; ../proofs/Worked.antt computes over this table.
+use Rattle.std.specs.Prelude.{List, [], ◌∷◌, ◌++◌, ℕ}
 use Prim.Native.Char.{code}
 use Prim.Native.String.{String}
 use Prim.Native.String.{[] as end-of-text, ◌∷◌ as ◌before◌}
-use Rattle.packing.specs.Placing.{first_fit, put, decision, placed}
-use Rattle.packing.specs.Looks.{height_from, looks}
-use Rattle.packing.specs.Prelude.{total, greatest, any, keep}
-use Rattle.packing.specs.Withdrawing.{without, withdrawal}
-use Rattle.packing.specs.Settling.{settling, settlement}
-use Rattle.packing.specs.SizeClasses.{size_class}
-use Rattle.packing.specs.Streams.{widths, lookup, commands, read}
-use Rattle.packing.specs.Run.{run_from, shelf_from, steps_of}
 use Rattle.packing.specs.Worked.{sample}
-use Rattle.text.specs.Lines.{digits, decimal, line}
-use Rattle.report.specs.Lines.{text, printing, printed}
 
 -- A text as bytes.
 unfoldable pub bytes : String → List ℕ
@@ -62,7 +51,3 @@ table =
     (0x01 ∷ 0 ∷ 0 ∷ 0 ∷ 0x3C ∷ 0 ∷ 4 ∷ 6 ∷ [], "T 0 0 0\n") ∷
     ([], "X 1 0\n") ∷
     []
-
-pub worked_texts : map (λ c. printed c.0) table ≡ map (λ c. bytes c.1) table
-unfolding table bytes printed printing text line decimal digits size_class total greatest any keep first_fit put decision placed height_from looks without withdrawal settling settlement run_from shelf_from steps_of flatten widths lookup commands read
-worked_texts = refl

@@ -14,7 +14,7 @@ use Rattle.packing.proofs.Limits.{in_limits}
 use Rattle.packing.proofs.Reached.{reached, both_in_stock}
 use Rattle.ledger.specs.Rows.{places}
 use Rattle.ledger.specs.Records.{Records}
-use Rattle.ledger.specs.Counting.{Countable, Tallied}
+use Rattle.ledger.specs.Counting.{Tallied}
 use Rattle.text.specs.Writing.{Wrote, AtFront}
 use Rattle.text.proofs.Rows.{wrote_same, wrote_both, at_front}
 use Rattle.pages.specs.Pages.{lines, lines_text}
@@ -30,9 +30,6 @@ use Rattle.sheet.proofs.Theorems.{before_is, printable}
 
 -- A ledger counts the bins of the production whose packing it records.
 module _ {o : Opening} (good : opening_good o ≡ true) {ledger : List (List ℕ)} (q : Production) (cs : List Command) (k : Records o ledger (packing o q cs)) where
-  pub countable : Countable ledger o.stock
-  countable = record { whole = k.whole; few = (in_limits o good).stock.1 }
-
   pub counted : (t : Tally) → Tallied ledger o.stock t → t.figure ≡ opened (packing o q cs)
   counted t h = ap (λ (t : Tally). t.figure) (h.model o (packing o q cs) k (reached o q cs).stock_lasts)
 

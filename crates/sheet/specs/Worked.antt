@@ -1,20 +1,8 @@
 -- Worked sheets: of the sample of document 01, of both productions and of the second alone, of an opening alone and of no stream at all, whole; and how
--- many pages so many rows of the two productions have.
-use Rattle.std.specs.Prelude.{◌≡◌, refl, ℕ, replicate}
-use mathlib.Core.List.{List, [], ◌∷◌, ◌++◌, map, flatten}
+-- many pages so many rows of the two productions have. ../proofs/Worked.antt computes over both tables.
+use Rattle.std.specs.Prelude.{List, [], ◌∷◌, ◌++◌, ℕ}
 use Prim.Native.String.{String}
-use Rattle.packing.specs.Placing.{first_fit, put, decision, placed}
-use Rattle.packing.specs.Run.{shelf_from}
-use Rattle.packing.specs.Prelude.{total, any}
-use Rattle.packing.specs.SizeClasses.{size_class}
-use Rattle.packing.specs.Streams.{widths, lookup, commands, read}
 use Rattle.packing.specs.Worked.{sample}
-use Rattle.text.specs.Lines.{digits, decimal, line}
-use Rattle.pages.specs.Pages.{rows_from, paged, page_numbers, pages_on, characters}
-use Rattle.pages.specs.Worked.{some_row}
-use Rattle.report.specs.Lines.{text, printing}
-use Rattle.report.specs.Worked.{bytes}
-use Rattle.sheet.specs.Sheet.{both_lines, sheet}
 
 -- A stock of 4, of capacity 60.
 abbrev opening : List ℕ
@@ -40,16 +28,8 @@ table =
     ([], "X 1 0\n") ∷
     []
 
-pub worked_sheets : map (λ c. sheet c.0) table ≡ map (λ c. bytes c.1) table
-unfolding table bytes sheet printing text line decimal digits size_class total any first_fit put decision placed shelf_from flatten widths lookup commands read rows_from paged page_numbers characters
-worked_sheets = refl
-
 -- So many rows of production 0 and of production 1 beside so many pages: each starts one of its own, and none has none.
 unfoldable pub counts : List ((ℕ × ℕ) × ℕ)
 counts =
     ((0, 0), 0) ∷ ((1, 0), 1) ∷ ((0, 1), 1) ∷ ((1, 1), 2) ∷ ((50, 1), 2) ∷ ((51, 50), 3) ∷ ((512, 0), 11) ∷ ((0, 512), 11) ∷ ((462, 50), 11) ∷
     ((461, 51), 12) ∷ ((1, 511), 12) ∷ []
-
-pub worked_pages : map (λ c. pages_on (both_lines (replicate c.0.0 some_row) (replicate c.0.1 some_row))) counts ≡ map (λ c. c.1) counts
-unfolding counts paged page_numbers
-worked_pages = refl
