@@ -7,4 +7,4 @@ pub returns-clause-exact : goal.returns-clause-exact
 returns-clause-exact c = pair_exact _ _ _ _
 
 pub returns-clause-promises : goal.returns-clause-promises
-returns-clause-promises c = pairs_promised _ _ _
+returns-clause-promises c = pairs_promised c.args.capacity c.args.pictures.now c.args.sounds.now

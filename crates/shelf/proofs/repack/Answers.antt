@@ -7,4 +7,4 @@ pub returns-clause-exact : goal.returns-clause-exact
 returns-clause-exact c = rows_exact _ _ _
 
 pub returns-clause-promises : goal.returns-clause-promises
-returns-clause-promises c = promised _ _ _
+returns-clause-promises c = promised c.args.capacity _ c.args.sizes.now
