@@ -1,55 +1,62 @@
 -- `tally_after` meets its contract: the ledgers of an accepted stream record the packings of its productions, over which the counts walk.
-use Rattle.std.proofs.Common.{◌≡◌, ◌≤◌, ap, arith, List, ℕ}
-use Rattle.packing.specs.declared.{Opening.Opening, Production.Production}
+use Rattle.std.proofs.Common.{◌≡◌, ℕ, ◌≤◌, List, drop, sym, ap, ◌∙◌, arith}
+use Rattle.packing.specs.declared.{Opening.Opening, Production.Production, Tally.Tally}
 use Rattle.packing.specs.declared.Production.TheVariants.{First, Second}
 use Rattle.packing.specs.Bins.{opened}
+use Rattle.packing.specs.Limits.{most_commands}
+use Rattle.packing.specs.Streams.{first_byte, opening_of, verdict}
 use Rattle.packing.specs.Run.{packing}
 use Rattle.packing.proofs.Limits.{in_limits}
 use Rattle.packing.proofs.Reached.{reached}
-use Rattle.ledger.specs.Counting.{Countable}
+use Rattle.ledger.specs.Counting.{Countable, Tallied}
 use Rattle.stream.proofs.Shelved.{Shelved, shelved, shelved_opening, shelved_whole, shelved_same}
-use Rattle.count_walk.specs.After.{tally_of}
+use Rattle.count_walk.specs.declared.Tallies.{Tallies}
+use Rattle.count_walk.specs.After.{tally_of, after}
 use Rattle.count_walk.proofs.tally_after.Goals as goal
 
--- An accepted stream with its ledgers, and the opening that is read again at its front.
-module _ {stream : List ℕ} {first second : List (List ℕ)} (k : Shelved stream first second) {again : Opening} (same : again ≡ k.opening) where
-  same_stock : again.stock ≡ k.opening.stock
-  same_stock = ap (λ (o : Opening). o.stock) same
+-- An accepted stream, and its opening read again.
+module _ {stream : List ℕ} {first second : List (List ℕ)} (k : Shelved stream first second) {o : Opening} (e : o ≡ opening_of (first_byte stream) (drop 1 stream)) where
+  same_stock : o.stock ≡ k.opening.stock
+  same_stock = ap (λ (o : Opening). o.stock) (shelved_same k e)
 
-  stock_few : again.stock ≤ 512
+  stock_few : o.stock ≤ 512
   stock_few = omega (arith, same_stock, (in_limits k.opening (shelved_whole k).opening_is_good).stock.1)
 
-  first_countable : Countable first again.stock
+  first_countable : Countable first o.stock
   first_countable = record { whole = k.records.first_is.whole; few = stock_few }
 
-  second_countable : Countable second again.stock
+  second_countable : Countable second o.stock
   second_countable = record { whole = k.records.second_is.whole; few = stock_few }
 
   -- A production has opened no more than the whole stock, of which a count may read every place.
-  lasts : (q : Production) → opened (packing k.opening q k.commands) ≤ again.stock
+  lasts : (q : Production) → opened (packing k.opening q k.commands) ≤ o.stock
   lasts q = omega (arith, same_stock, (reached k.opening q k.commands).stock_lasts)
 
+  counted : (t u : Tally) → Tallied first o.stock t → Tallied second o.stock u → ◌≡◌ {A = Tallies} (record { first = t; second = u }) (after (verdict stream most_commands))
+  counted t u h i =
+      let p = packing k.opening First k.commands in
+      let q = packing k.opening Second k.commands in
+      let one : t ≡ tally_of k.opening.stock p = h.model k.opening p k.records.first_is (lasts First) ∙ ap (λ (n : ℕ). tally_of n p) same_stock in
+      let two : u ≡ tally_of k.opening.stock q = i.model k.opening q k.records.second_is (lasts Second) ∙ ap (λ (n : ℕ). tally_of n q) same_stock in
+      ap (λ (x : Tally). record { first = x; second = u }) one
+      ∙ ap (λ (x : Tally). record { first = tally_of k.opening.stock p; second = x }) two ∙ sym (ap after k.accepts)
+
 pub opening_of-opening-requires : goal.opening_of-opening-requires
-opening_of-opening-requires c = shelved_opening (shelved c.in-Accepted.ensures.result c.in-Accepted.ensures.recorded)
+opening_of-opening-requires c =
+    let r = c.in-Accepted.ensures in
+    shelved_opening (shelved r.result r.recorded)
 
 pub count-first-requires : goal.count-first-requires
 count-first-requires c =
-    let k = shelved c.in-Accepted.ensures.result c.in-Accepted.ensures.recorded in
-    first_countable k (shelved_same k c.opening_of-opening.ensures)
+    let r = c.in-Accepted.ensures in
+    first_countable (shelved r.result r.recorded) c.opening_of-opening.ensures
 
 pub count-second-requires : goal.count-second-requires
 count-second-requires c =
-    let k = shelved c.in-Accepted.ensures.result c.in-Accepted.ensures.recorded in
-    second_countable k (shelved_same k c.opening_of-opening.ensures)
+    let r = c.in-Accepted.ensures in
+    second_countable (shelved r.result r.recorded) c.opening_of-opening.ensures
 
 pub returns-in-Accepted : goal.returns-in-Accepted
 returns-in-Accepted c =
-    let k = shelved c.in-Accepted.ensures.result c.in-Accepted.ensures.recorded in
-    let same = shelved_same k c.opening_of-opening.ensures in
-    let o = k.opening in
-    let stock = c.opening_of-opening.result.stock in
-    let first : c.count-first.result ≡ tally_of stock (packing o First k.commands) =
-    c.count-first.ensures.model o (packing o First k.commands) k.records.first_is (lasts k same First) in
-    let second : c.count-second.result ≡ tally_of stock (packing o Second k.commands) =
-    c.count-second.ensures.model o (packing o Second k.commands) k.records.second_is (lasts k same Second) in
-    rw (k.accepts, ← same_stock k same) (cc (first, second))
+    let r = c.in-Accepted.ensures in
+    counted (shelved r.result r.recorded) c.opening_of-opening.ensures _ _ c.count-first.ensures c.count-second.ensures

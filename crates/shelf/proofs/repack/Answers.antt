@@ -1,15 +1,10 @@
 -- `repack` meets its contract: the equation of crate repack, in the documents' numbers, and what is proved of a row.
-use Rattle.std.proofs.Common.{ap}
-use Rattle.packing.specs.Refusals.{repack_gives}
 use Rattle.packing.proofs.Rows.{rows_exact}
 use Rattle.decreasing.proofs.Promises.{promised}
 use Rattle.shelf.proofs.repack.Goals as goal
-
-pub returns-clause-result : goal.returns-clause-result
-returns-clause-result c = ap repack_gives c.repack.ensures.result
 
 pub returns-clause-exact : goal.returns-clause-exact
 returns-clause-exact c = rows_exact _ _ _
 
 pub returns-clause-promises : goal.returns-clause-promises
-returns-clause-promises c = promised _ _ _
+returns-clause-promises c = promised c.args.capacity _ c.args.sizes.now
