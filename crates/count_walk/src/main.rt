@@ -12,7 +12,7 @@ use ledger::{BINS, COLUMNS};
 use limits::MOST_COMMANDS;
 use packing::{StreamResult, Tally};
 use report::refused::MOST_BYTES;
-use std::io::{self, Read};
+use std::io;
 
 // A count in each production.
 #[derive(Clone, Copy)]
@@ -64,12 +64,10 @@ fn show(rt: &impl Print, tally: Tally) -> io::Result<()> {
 
 // It reads as `shelve` does.
 fn main(rt: HostRuntime) -> io::Result<()> {
-    let mut stream = Vec::new(rt.alloc());
-    rt.stdin()
-        .take(MOST_BYTES as u64 + 1)
-        .read_to_end(&mut stream)?;
-    if stream.len() <= MOST_BYTES {
-        let tallies = tally_after(&stream);
+    let mut stream = [0u8; MOST_BYTES + 1];
+    let read = input::read_full(&mut rt.stdin(), &mut stream)?;
+    if read <= MOST_BYTES {
+        let tallies = tally_after(&stream[..read]);
         show(&rt, tallies.first)?;
         show(&rt, tallies.second)?;
     }

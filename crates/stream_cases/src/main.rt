@@ -14,10 +14,10 @@
 
 ghost use Rattle.std.specs.Prelude.{◌≤◌, ◌<◌, length};
 
-use std::io::{self, Read};
+use std::io;
 
 // More than the cases have.
-const TEXT: u64 = 65536;
+const TEXT: usize = 65536;
 
 // One byte more than the longest stream.
 const SPACE: usize = 32769;
@@ -192,7 +192,7 @@ fn take_lines(rt: &impl Print, text: &[u8]) -> io::Result<()> {
 
 // It reads the cases until the input ends.
 fn main(rt: HostRuntime) -> io::Result<()> {
-    let mut text = Vec::new(rt.alloc());
-    rt.stdin().take(TEXT).read_to_end(&mut text)?;
-    take_lines(&rt, &text)
+    let mut text = [0u8; TEXT];
+    let read = input::read_full(&mut rt.stdin(), &mut text)?;
+    take_lines(&rt, &text[..read])
 }

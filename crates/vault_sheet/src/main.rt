@@ -3,16 +3,14 @@
 #![tactic(auto)]
 
 use report::refused::MOST_BYTES;
-use std::io::{self, Read};
+use std::io;
 
 // It reads until the input ends, or there is one byte more than the longest stream, and writes every byte of the text. A read or a write that fails ends
 // it, with the status 1.
 fn main(rt: HostRuntime) -> io::Result<()> {
-    let mut stream = Vec::new(rt.alloc());
-    rt.stdin()
-        .take(MOST_BYTES as u64 + 1)
-        .read_to_end(&mut stream)?;
+    let mut stream = [0u8; MOST_BYTES + 1];
+    let read = input::read_full(&mut rt.stdin(), &mut stream)?;
     let mut out = [0u8; sheet::N];
-    let printed = sheet::print(&stream, &mut out);
+    let printed = sheet::print(&stream[..read], &mut out);
     rt.write_all(&out[..printed])
 }

@@ -1,0 +1,6 @@
+-- So many bytes of the row are read.
+use Rattle.std.proofs.Common.{◌≤◌, length}
+use Rattle.input.proofs.read_full.Given as goal
+
+abbrev pub invariant-loop : goal.invariant-loop
+invariant-loop g l = l.read ≤ length l.row
