@@ -1,6 +1,6 @@
 #!/usr/bin/env python3
 """Respells the repository's own definitions and lemmas as today's Rattle spells names: words in snake case, so `freeOn` is `free_on` and `rows-exact` is
-`rows_exact`; types and modules keep their camel case. Run once, after /opt/rattle/port/port.py and before any edit by hand.
+`rows_exact`; types and modules keep their camel case. Run once, after port/port.py of the kit and before any edit by hand.
 
 usage: tools/respell_names.py [--table]      at the top of the repository; --table prints the names and changes nothing
 
