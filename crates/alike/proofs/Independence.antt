@@ -4,7 +4,7 @@ use Prim.Native.Nat.{ℕ, zero, suc, ◌<◌}
 use mathlib.Core.Path.{◌≡◌, refl, sym, ap, subst, ◌∙◌}
 use mathlib.Core.Bool.{Bool, true, false, ◌||◌, true≢false}
 use mathlib.Core.List.{List, [], ◌∷◌, ◌++◌, map}
-use mathlib.Core.Option.{Option}
+use Rattle.std.specs.Prelude.{Option, Some, None}
 use native.Mathlib.Omega.{arith}
 use borrow.Author.Tests.{not-true}
 use lib.Dec.{ltb}
@@ -35,8 +35,8 @@ module _ (o : Opening) (p : Packing) (left left' n : ℕ) where
   same_decision : (i : Item) (reason : Option ItemReason) → is_spent (told o (placed o p i) (decision o p i left reason)) ≡ false
       → is_spent (told o (placed o p i) (decision o p i left' reason)) ≡ false → decision o p i left reason ≡ decision o p i left' reason
   unfolding decision
-  same_decision i (Option.some reason) x y = refl
-  same_decision i Option.none x y = go (ltb o.capacity i.size) (spent o p i left) (spent o p i left') x y
+  same_decision i (Some reason) x y = refl
+  same_decision i None x y = go (ltb o.capacity i.size) (spent o p i left) (spent o p i left') x y
     where
       by : (b d : Bool) → Decision
       by b d = if b then refusing AboveCapacity else if d then refusing StockSpent else into (bin_for o p i)

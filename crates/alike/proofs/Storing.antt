@@ -2,7 +2,7 @@
 use mathlib.Core.Path.{◌≡◌, refl, sym, ap, subst, ◌∙◌}
 use mathlib.Core.Bool.{Bool, true, false, false≢true}
 use mathlib.Core.List.{List, [], ◌∷◌, map, flatten}
-use mathlib.Core.Option.{Option, none, some}
+use Rattle.std.specs.Prelude.{Option, None, Some}
 use Prim.Native.Nat.{ℕ, suc, ◌≤◌}
 use native.Mathlib.Decide.{ℕ_discrete, dec_lt}
 use native.Mathlib.Omega.{arith}
@@ -33,8 +33,8 @@ module _ (o : Opening) where
   item_stored : (s : ℕ) → 1 ≤ s → stored o₀ (size_of (by_stored o (Shelve s))) ≡ stored o s
   item_stored s l = rw (ne_eqb s 0 (λ e. omega arith)) (omega arith)
 
-  least_stored : (least greatest : ℕ) → 1 ≤ least → least_of o₀ (by_stored o (Reserve least greatest)) ≡ some (stored o least)
-  least_stored least greatest l = rw (ne_eqb least 0 (λ e. omega arith)) (ap some (omega arith))
+  least_stored : (least greatest : ℕ) → 1 ≤ least → least_of o₀ (by_stored o (Reserve least greatest)) ≡ Some (stored o least)
+  least_stored least greatest l = rw (ne_eqb least 0 (λ e. omega arith)) (ap Some (omega arith))
 
   greatest_stored : (least greatest : ℕ) → stored o₀ (size_of (by_stored o (Reserve least greatest))) ≡ stored o greatest
   greatest_stored least greatest = omega arith
@@ -64,7 +64,7 @@ module _ (o : Opening) where
   same_fault (Settle named size) = refl
 
   -- Where it has none, it is the same item.
-  same_item : (n : ℕ) (c : Command) → shelves_item c ≡ true → fault c ≡ none → item_of o₀ n (by_stored o c) ≡ item_of o n c
+  same_item : (n : ℕ) (c : Command) → shelves_item c ≡ true → fault c ≡ None → item_of o₀ n (by_stored o c) ≡ item_of o n c
   same_item n (Shelve s) shelves e = cc (item_stored s (size_some s e))
   same_item n Count shelves e = absurd (false≢true shelves)
   same_item n (Withdraw named) shelves e = absurd (false≢true shelves)
@@ -76,8 +76,8 @@ module _ (o : Opening) where
   module _ (left : ℕ) (p : Packing) (n : ℕ) where
     same_decision : (i : Item) (reason : Option ItemReason) → decision o₀ p i left reason ≡ decision o p i left reason
     unfolding decision
-    same_decision i (some reason) = refl
-    same_decision i none = refl
+    same_decision i (Some reason) = refl
+    same_decision i None = refl
 
     same_placed : (i : Item) → placed o₀ p i ≡ placed o p i
     unfolding placed
@@ -103,8 +103,8 @@ module _ (o : Opening) where
       where
         go : (reason : Option ItemReason) → fault c ≡ reason
             → (shelved_as o₀ left p n (by_stored o c) ≡ shelved_as o left p n c) × (item_after o₀ (by_stored o c) ≡ item_after o c)
-        go (some reason) e = let f = same_fault c in (rw (f, e), rw (f, e))
-        go none e =
+        go (Some reason) e = let f = same_fault c in (rw (f, e), rw (f, e))
+        go None e =
             let i = item_of o n c in
             let answer : shelved_as o₀ left p n (by_stored o c) ≡ shelved_as o left p n c =
             rw (same_item n c shelves e, same_fault c, same_placed i, same_decision i (fault c)) (same_told (placed o p i) (decision o p i left (fault c))) in

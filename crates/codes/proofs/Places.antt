@@ -1,16 +1,18 @@
 -- The place of a plan's refusal is at most one more than the most rows.
 use mathlib.Core.Path.{◌≡◌, refl}
 use mathlib.Core.Bool.{Bool, true, false}
-use mathlib.Core.Option.{Option, none, some}
+use Rattle.std.specs.Prelude.{Option, None, Some}
 use mathlib.Core.List.{List, [], ◌∷◌}
 use Prim.Native.Nat.{ℕ, suc, ◌+◌, ◌≤◌, min}
 use native.Mathlib.Omega.{arith}
 use lib.Dec.{eqb}
 use lib.ListN.{length}
-use Rattle.packing.specs.declared.{Entry.Entry, PlanReason.PlanReason, PlanResult.PlanResult}
+use Rattle.packing.specs.declared.{Entry.Entry, PlanReason.PlanReason}
 use Rattle.packing.specs.declared.PlanReason.TheVariants.{CapacityOutside, TooLong, OtherItems}
+use Rattle.packing.specs.Prelude.{Ok, Err}
+use Rattle.packing.specs.Refusing.{PlanResult, pass_if, ◌and_then◌}
 use Rattle.packing.specs.Limits.{capacity_good, most_rows}
-use Rattle.packing.specs.Plans.{pass_if, ◌and_then◌, lengths_good, limits, fault, entries, check}
+use Rattle.packing.specs.Plans.{lengths_good, limits, fault, entries, check}
 use Rattle.worst_case.proofs.PlanFits.{none_above, passed_within}
 use Rattle.codes.specs.Codes.{PlaceFits}
 
@@ -23,8 +25,8 @@ module _ (capacity k : ℕ) where
     where
       go : (f : Option PlanReason) → fault capacity k before e s ≡ f → (length (e ∷ before) + length es ≤ most_rows → PlaceFits (entries capacity k (e ∷ before) es ss))
           → PlaceFits (entries capacity k before (e ∷ es) (s ∷ ss))
-      go (some reason) q r = rw (q, entries) (omega arith)
-      go none q r = rw (q, entries) (r (omega arith))
+      go (Some reason) q r = rw (q, entries) (omega arith)
+      go None q r = rw (q, entries) (r (omega arith))
 
   limits_place : (rows items : ℕ) → PlaceFits (limits capacity k rows items)
   unfolding limits
@@ -42,5 +44,5 @@ module _ (capacity k : ℕ) where
   place_fits plan sizes = go (limits capacity k (length plan) (length sizes)) refl (limits_place (length plan) (length sizes))
     where
       go : (l : PlanResult) → limits capacity k (length plan) (length sizes) ≡ l → PlaceFits l → PlaceFits (l and_then entries capacity k [] plan sizes)
-      go PlanResult.Passed e f = entries_place [] plan sizes (omega (arith, (passed_within capacity k (length plan) (length sizes) e).rows_good))
-      go (PlanResult.Refused reason place) e f = f
+      go (Ok passed) e f = entries_place [] plan sizes (omega (arith, (passed_within capacity k (length plan) (length sizes) e).rows_good))
+      go (Err r) e f = f

@@ -1,6 +1,7 @@
 -- A result as one 64-bit number, for C and Rust.
-use Rattle.std.specs.Prelude.{◌≡◌, ◌↔◌, List, ℕ, ◌+◌, ◌*◌, ◌^◌, ◌<◌, if◌then◌else◌}
-use Rattle.packing.specs.declared.{Entry.Entry, StreamResult.StreamResult, PlanResult.PlanResult, RepackResult.RepackResult, PairResult.PairResult}
+use Rattle.std.specs.Prelude.{◌≡◌, ◌↔◌, List, ℕ, ◌+◌, ◌*◌, ◌^◌, ◌<◌, Ok, Err, if◌then◌else◌}
+use Rattle.packing.specs.declared.{Entry.Entry}
+use Rattle.packing.specs.Refusing.{StreamResult, PlanResult, RepackResult, PairResult}
 use Rattle.packing.specs.Refusals.{stream_number, plan_number, row_number}
 use Rattle.worst_case.specs.PlanFits.{Fits}
 
@@ -10,40 +11,40 @@ refusal_code number place = 2 ^ 63 + number * 2 ^ 32 + place
 
 -- Accepted: looks x 2^32 + items x 65,536 + bins, the latter both totals of the two productions.
 abbrev pub stream_code : StreamResult → ℕ
-stream_code (StreamResult.Accepted items opened looks) = looks * 2 ^ 32 + items * 65_536 + opened
-stream_code (StreamResult.Refused reason offset) = refusal_code (stream_number reason) offset
+stream_code (Ok totals) = totals.looks * 2 ^ 32 + totals.items * 65_536 + totals.opened
+stream_code (Err r) = refusal_code (stream_number r.reason) r.place
 
 -- Each figure fits its place in the number.
 abbrev pub FiguresFit : StreamResult → Type 0
-FiguresFit (StreamResult.Accepted items opened looks) = (items < 65_536) × ((opened < 65_536) × (looks < 2 ^ 31))
-FiguresFit (StreamResult.Refused reason offset) = offset < 2 ^ 32
+FiguresFit (Ok totals) = (totals.items < 65_536) × ((totals.opened < 65_536) × (totals.looks < 2 ^ 31))
+FiguresFit (Err r) = r.place < 2 ^ 32
 
 -- Passed: 0.
 abbrev pub plan_code : PlanResult → ℕ
-plan_code PlanResult.Passed = 0
-plan_code (PlanResult.Refused reason place) = refusal_code (plan_number reason) place
+plan_code (Ok passed) = 0
+plan_code (Err r) = refusal_code (plan_number r.reason) r.place
 
 abbrev pub PlaceFits : PlanResult → Type 0
-PlaceFits PlanResult.Passed = Unit {0}
-PlaceFits (PlanResult.Refused reason place) = place < 2 ^ 32
+PlaceFits (Ok passed) = Unit {0}
+PlaceFits (Err r) = r.place < 2 ^ 32
 
 -- Repacked: 2^32 if the move saves nothing, and the new count.
 abbrev pub repack_code : RepackResult → ℕ
-repack_code (RepackResult.Repacked count saves_nothing) = (if saves_nothing then 2 ^ 32 else 0) + count
-repack_code (RepackResult.Refused reason place) = refusal_code (row_number reason) place
+repack_code (Ok repacked) = (if repacked.saves_nothing then 2 ^ 32 else 0) + repacked.count
+repack_code (Err r) = refusal_code (row_number r.reason) r.place
 
 abbrev pub RepackFits : RepackResult → Type 0
-RepackFits (RepackResult.Repacked count saves_nothing) = count < 2 ^ 32
-RepackFits (RepackResult.Refused reason place) = place < 2 ^ 32
+RepackFits (Ok repacked) = repacked.count < 2 ^ 32
+RepackFits (Err r) = r.place < 2 ^ 32
 
 -- Paired: the number of pairs.
 abbrev pub pair_code : PairResult → ℕ
-pair_code (PairResult.Paired pairs) = pairs
-pair_code (PairResult.Refused reason place) = refusal_code (row_number reason) place
+pair_code (Ok pairs) = pairs
+pair_code (Err r) = refusal_code (row_number r.reason) r.place
 
 abbrev pub PairFits : PairResult → Type 0
-PairFits (PairResult.Paired pairs) = pairs < 2 ^ 32
-PairFits (PairResult.Refused reason place) = place < 2 ^ 32
+PairFits (Ok pairs) = pairs < 2 ^ 32
+PairFits (Err r) = r.place < 2 ^ 32
 
 -- The number gives the result back: of the results whose figures fit, no two share a number. Proved in ../proofs/Back.antt.
 abbrev pub StreamCodeBack : Type 0

@@ -4,7 +4,7 @@
 ghost use Rattle.std.specs.Prelude.{◌≡◌, ◌^◌, ◌<◌};
 ghost use Rattle.codes.specs.Codes.{refusal_code, stream_code, FiguresFit, plan_code, PlaceFits, repack_code, RepackFits, pair_code, PairFits};
 
-use packing::{PairResult, PlanResult, RepackResult, StreamResult};
+use packing::{PairResult, PlanResult, Refusal, RepackResult, StreamResult};
 
 // A refusal of any call: its number, and its offset or place.
 fn refusal_code(number: u16, place: usize) -> u64
@@ -22,20 +22,13 @@ pub fn stream_code(r: StreamResult) -> u64
     ensures { result ≡ stream_code r }
 {
     match r {
-        StreamResult::Accepted {
-            items,
-            opened,
-            looks,
-        } => {
-            let high = looks as u64 * 4294967296;
-            let middle = items as u64 * 65536;
-            let low = opened as u64;
+        Ok(totals) => {
+            let high = totals.looks as u64 * 4294967296;
+            let middle = totals.items as u64 * 65536;
+            let low = totals.opened as u64;
             high + middle + low
         }
-        StreamResult::Refused { reason, offset } => {
-            let number = refusals::stream_number(reason);
-            refusal_code(number, offset)
-        }
+        Err(refusal) => refusal_code(u16::from(refusal.reason), refusal.place),
     }
 }
 
@@ -44,13 +37,10 @@ pub fn plan_code(r: PlanResult) -> u64
     requires { PlaceFits r }
     ensures { result ≡ plan_code r }
 {
-    match r {
-        PlanResult::Passed => 0,
-        PlanResult::Refused { reason, place } => {
-            let number = refusals::plan_number(reason);
-            refusal_code(number, place)
-        }
-    }
+    let Err(Refusal { reason, place }) = r else {
+        return 0;
+    };
+    refusal_code(u16::from(reason), place)
 }
 
 // What a repacking returns.
@@ -59,20 +49,14 @@ pub fn repack_code(r: RepackResult) -> u64
     ensures { result ≡ repack_code r }
 {
     match r {
-        RepackResult::Repacked {
-            count,
-            saves_nothing,
-        } => {
-            let figure = count as u64;
-            if saves_nothing {
+        Ok(repacked) => {
+            let figure = repacked.count as u64;
+            if repacked.saves_nothing {
                 return 4294967296 + figure;
             }
             figure
         }
-        RepackResult::Refused { reason, place } => {
-            let number = refusals::row_number(reason);
-            refusal_code(number, place)
-        }
+        Err(refusal) => refusal_code(u16::from(refusal.reason), refusal.place),
     }
 }
 
@@ -82,10 +66,7 @@ pub fn pair_code(r: PairResult) -> u64
     ensures { result ≡ pair_code r }
 {
     match r {
-        PairResult::Paired(pairs) => pairs as u64,
-        PairResult::Refused { reason, place } => {
-            let number = refusals::row_number(reason);
-            refusal_code(number, place)
-        }
+        Ok(pairs) => pairs as u64,
+        Err(refusal) => refusal_code(u16::from(refusal.reason), refusal.place),
     }
 }

@@ -1,7 +1,7 @@
 // "What the shelf consists of": tests of document 01's limits.
 #![tactic(auto)]
 
-ghost use Rattle.std.specs.Prelude.{◌≡◌, min, max};
+ghost use Rattle.std.specs.Prelude.{◌≡◌};
 ghost use Rattle.packing.specs.Limits.{within, opening_good};
 
 use packing::Opening;
@@ -17,38 +17,14 @@ pub const MOST_ROWS: usize = 4_096;
 pub fn is_within(least: u32, most: u32, n: u32) -> bool
     ensures { result ≡ within least most n }
 {
-    if n < least {
-        return false;
-    }
-    n <= most
+    (least..=most).contains(&n)
 }
 
 // Whether each operand of the opening is within its limits.
 pub fn opening_good(o: Opening) -> bool
     ensures { result ≡ opening_good o }
 {
-    let capacity = o.capacity;
-    let stock = o.stock as u32;
-    let m = o.m as u32;
-    if is_within(1, MOST_CAPACITY, capacity) {
-        if is_within(1, 512, stock) {
-            return is_within(6, 9, m);
-        }
-        return false;
-    }
-    false
-}
-
-// The larger of two numbers.
-pub fn larger(a: usize, b: usize) -> usize
-    ensures { result ≡ max a b }
-{
-    if a < b { b } else { a }
-}
-
-// The length of the shorter of two rows.
-pub fn shorter(a: usize, b: usize) -> usize
-    ensures { result ≡ min a b }
-{
-    if a < b { a } else { b }
+    is_within(1, MOST_CAPACITY, o.capacity)
+        && is_within(1, 512, o.stock as u32)
+        && is_within(6, 9, o.m as u32)
 }

@@ -1,7 +1,7 @@
 -- Algorithm PM: each picture, from the smallest, with the largest sound that fits beside it; and what the call of a pairing gives.
 use Rattle.std.specs.Prelude.{◌+◌, ◌∷◌, ◌++◌, if◌then◌else◌}
-use Rattle.packing.specs.Prelude.{ℕ, Bool, List, [], map, reverse, length, drop, ◌=?◌, ◌≤?◌}
-use Rattle.packing.specs.declared.{RowResult.RowResult, PairResult.PairResult}
+use Rattle.packing.specs.Prelude.{ℕ, Bool, List, [], map, reverse, length, drop, ◌=?◌, ◌≤?◌, Ok, Err}
+use Rattle.packing.specs.Refusing.{RowResult, PairResult}
 use Rattle.packing.specs.Bins.{Item}
 use Rattle.ordering.specs.Items.{items}
 use Rattle.ordering.specs.Ordered.{smallest_first}
@@ -49,10 +49,10 @@ module _ (capacity : ℕ) where
 
     -- What is returned, by what the checks of the rows come to.
     abbrev pub pair_result : RowResult → PairResult
-    pair_result RowResult.Sound = PairResult.Paired pair_count
-    pair_result (RowResult.Refused reason place) = PairResult.Refused reason place
+    pair_result (Ok passed) = Ok pair_count
+    pair_result (Err refusal) = Err refusal
 
     -- The answer row at exit: words past the last picture are untouched, and of a refused call all are.
     abbrev pub places_at_exit : RowResult → (row : List ℕ) → List ℕ
-    places_at_exit RowResult.Sound row = sound_places ++ drop (length pictures) row
-    places_at_exit (RowResult.Refused reason place) row = row
+    places_at_exit (Ok passed) row = sound_places ++ drop (length pictures) row
+    places_at_exit (Err refusal) row = row

@@ -10,8 +10,8 @@ use lib.Dec.{eqb, ltb}
 use Rattle.std.specs.Prelude.{if◌then◌else◌}
 use Rattle.packing.specs.Prelude.{Opening, Production, First, Second, Command, Shelve, Count, Withdraw, Switch, Reserve, Settle, Outcome, Placed, Counted, Withdrawn, Switched, Settled, Refused}
 use Rattle.packing.specs.Prelude.{ItemReason, SizeZero, AboveCapacity, StockSpent, NotShelved, RangeWrong, NotReserved, OutsideRange}
-use Rattle.packing.specs.Prelude.{StreamReason, NoOpening, UnknownOpcode, CutShort, SecondOpening, OutsideLimits, TooManyCommands, TooFewWords, NoProduction, StreamResult}
-use Rattle.packing.specs.Prelude.{PlanReason, CapacityOutside, TooLong, SizeOutside, BinOutside, Overfull, OtherItems, PlanResult, RowReason, RepackResult, PairResult}
+use Rattle.packing.specs.Prelude.{StreamReason, NoOpening, UnknownOpcode, CutShort, SecondOpening, OutsideLimits, TooManyCommands, TooFewWords, NoProduction}
+use Rattle.packing.specs.Prelude.{PlanReason, CapacityOutside, TooLong, SizeOutside, BinOutside, Overfull, OtherItems, RowReason, Result, Ok, Err, Refusal}
 use Rattle.packing.specs.Refusals.{stream_number, item_number, plan_number, row_number, word, free_units, item_reason, outcome_of}
 use Rattle.packing.specs.Productions.{production_number, production_of, other}
 use Rattle.packing.specs.Bins.{Packing, free_on, stored}
@@ -103,42 +103,47 @@ plan_number_back r s e = sym (plan_reason_lem r) ∙ ap plan_reason e ∙ plan_r
 pub row_number_back : (r s : RowReason) → row_number r ≡ row_number s → r ≡ s
 row_number_back r s e = sym (row_reason_lem r) ∙ ap row_reason e ∙ row_reason_lem s
 
+-- Refusals of one reason and place are one.
+pub same_refusal : {T R : Type 0} (r s : Refusal R) → r.reason ≡ s.reason → r.place ≡ s.place → ◌≡◌ {A = Result T (Refusal R)} (Err r) (Err s)
+same_refusal r s e f = λ i. Err (record { reason = e i; place = f i })
+
 pub stream_gives_back : StreamGivesBack
-stream_gives_back (StreamResult.Accepted items opened looks) (StreamResult.Accepted items' opened' looks') e = cc
-stream_gives_back (StreamResult.Accepted items opened looks) (StreamResult.Refused reason offset) e = clash (cc)
-stream_gives_back (StreamResult.Refused reason offset) (StreamResult.Accepted items opened looks) e = clash (cc)
-stream_gives_back (StreamResult.Refused reason offset) (StreamResult.Refused reason' offset') e =
-    let same : stream_number reason ≡ stream_number reason' = cc in cc (stream_number_back reason reason' same)
+stream_gives_back (Ok t) (Ok u) e =
+    let items : t.items ≡ u.items = cc in
+    let opened : t.opened ≡ u.opened = cc in
+    let looks : t.looks ≡ u.looks = cc in
+    λ i. Ok (record { items = items i; opened = opened i; looks = looks i })
+stream_gives_back (Ok t) (Err s) e = clash (cc)
+stream_gives_back (Err r) (Ok u) e = clash (cc)
+stream_gives_back (Err r) (Err s) e = let same : stream_number r.reason ≡ stream_number s.reason = cc in same_refusal r s (stream_number_back r.reason s.reason same) cc
 
 pub plan_gives_back : PlanGivesBack
-plan_gives_back PlanResult.Passed PlanResult.Passed e = refl
-plan_gives_back PlanResult.Passed (PlanResult.Refused reason place) e = clash (cc)
-plan_gives_back (PlanResult.Refused reason place) PlanResult.Passed e = clash (cc)
-plan_gives_back (PlanResult.Refused reason place) (PlanResult.Refused reason' place') e =
-    let same : plan_number reason ≡ plan_number reason' = cc in cc (plan_number_back reason reason' same)
+plan_gives_back (Ok a) (Ok b) e = refl
+plan_gives_back (Ok a) (Err s) e = clash (cc)
+plan_gives_back (Err r) (Ok b) e = clash (cc)
+plan_gives_back (Err r) (Err s) e = let same : plan_number r.reason ≡ plan_number s.reason = cc in same_refusal r s (plan_number_back r.reason s.reason same) cc
 
 pub repack_gives_back : RepackGivesBack
-repack_gives_back (RepackResult.Repacked count saves) (RepackResult.Repacked count' saves') e =
-    let counts : count ≡ count' = cc in
-    let flags : ◌≡◌ {A = ℕ} (if saves then 1 else 0) (if saves' then 1 else 0) = cc in
-    go saves saves' counts flags
+repack_gives_back (Ok t) (Ok u) e =
+    let counts : t.count ≡ u.count = cc in
+    let flags : ◌≡◌ {A = ℕ} (if t.saves_nothing then 1 else 0) (if u.saves_nothing then 1 else 0) = cc in
+    let saves = same_flag t.saves_nothing u.saves_nothing flags in
+    λ i. Ok (record { count = counts i; saves_nothing = saves i })
   where
-    go : (a b : Bool) → count ≡ count' → ◌≡◌ {A = ℕ} (if a then 1 else 0) (if b then 1 else 0) → RepackResult.Repacked count a ≡ RepackResult.Repacked count' b
-    go true true p q = rw p
-    go false false p q = rw p
-    go true false p q = absurd (omega (arith, q))
-    go false true p q = absurd (omega (arith, q))
-repack_gives_back (RepackResult.Repacked count saves) (RepackResult.Refused reason place) e = clash (cc)
-repack_gives_back (RepackResult.Refused reason place) (RepackResult.Repacked count saves) e = clash (cc)
-repack_gives_back (RepackResult.Refused reason place) (RepackResult.Refused reason' place') e =
-    let same : row_number reason ≡ row_number reason' = cc in cc (row_number_back reason reason' same)
+    same_flag : (a b : Bool) → ◌≡◌ {A = ℕ} (if a then 1 else 0) (if b then 1 else 0) → a ≡ b
+    same_flag true true q = refl
+    same_flag false false q = refl
+    same_flag true false q = absurd (omega (arith, q))
+    same_flag false true q = absurd (omega (arith, q))
+repack_gives_back (Ok t) (Err s) e = clash (cc)
+repack_gives_back (Err r) (Ok u) e = clash (cc)
+repack_gives_back (Err r) (Err s) e = let same : row_number r.reason ≡ row_number s.reason = cc in same_refusal r s (row_number_back r.reason s.reason same) cc
 
 pub pair_gives_back : PairGivesBack
-pair_gives_back (PairResult.Paired pairs) (PairResult.Paired pairs') e = cc
-pair_gives_back (PairResult.Paired pairs) (PairResult.Refused reason place) e = clash (cc)
-pair_gives_back (PairResult.Refused reason place) (PairResult.Paired pairs) e = clash (cc)
-pair_gives_back (PairResult.Refused reason place) (PairResult.Refused reason' place') e =
-    let same : row_number reason ≡ row_number reason' = cc in cc (row_number_back reason reason' same)
+pair_gives_back (Ok pairs) (Ok pairs') e = cc
+pair_gives_back (Ok pairs) (Err s) e = clash (cc)
+pair_gives_back (Err r) (Ok pairs) e = clash (cc)
+pair_gives_back (Err r) (Err s) e = let same : row_number r.reason ≡ row_number s.reason = cc in same_refusal r s (row_number_back r.reason s.reason same) cc
 
 -- How large they are.
 pub item_number_few : (reason : ItemReason) → item_number reason ≤ 21

@@ -3,7 +3,7 @@ use Prim.Native.Nat.{ℕ, zero, suc, ◌+◌, ◌^◌, ◌≤◌, ◌<◌, max}
 use mathlib.Core.Path.{◌≡◌, refl, sym, ap, subst, ◌∙◌}
 use mathlib.Core.Logic.{⊎_elim}
 use mathlib.Core.Bool.{Bool, true, false, ◌||◌}
-use mathlib.Core.Option.{Option, none, some}
+use Rattle.std.specs.Prelude.{Option, None, Some}
 use mathlib.Core.List.Memᴰ
 use mathlib.Core.List.{List, [], ◌∷◌, ◌++◌, map, map-id, Memᴰ}
 use mathlib.Mathlib.Data.Bool.Basic.{dichotomy}
@@ -67,25 +67,25 @@ fits_first test (b ∷ bs) = go (test b) (fits_first test bs)
     ]
 
 module _ (o : Opening) (p : Packing) (i : Item) where
-  pub looks_faulty : (fault : Option ItemReason) → (fault ≡ none → ⊥) → looks o p i fault ≡ 0
+  pub looks_faulty : (fault : Option ItemReason) → (fault ≡ None → ⊥) → looks o p i fault ≡ 0
   unfolding looks
-  looks_faulty (some reason) e = refl
-  looks_faulty none e = absurd (e refl)
+  looks_faulty (Some reason) e = refl
+  looks_faulty None e = absurd (e refl)
 
   pub looks_above : (fault : Option ItemReason) → o.capacity < i.size → looks o p i fault ≡ 0
   unfolding looks
-  looks_above (some reason) l = refl
-  looks_above none l = rw (lt-ltb o.capacity i.size l)
+  looks_above (Some reason) l = refl
+  looks_above None l = rw (lt-ltb o.capacity i.size l)
 
   -- It passes the checks before 10.
-  pub looks_by : (fault : Option ItemReason) → fault ≡ none → i.size ≤ o.capacity → looks o p i fault ≡ (if fits o p i then 1 + height o.stock else 1)
+  pub looks_by : (fault : Option ItemReason) → fault ≡ None → i.size ≤ o.capacity → looks o p i fault ≡ (if fits o p i then 1 + height o.stock else 1)
   unfolding looks
   looks_by fault faultless within = rw (faultless, le-ltb o.capacity i.size within)
 
   looks_few : (fault : Option ItemReason) → looks o p i fault ≤ 1 + height o.stock
   unfolding looks
-  looks_few (some reason) = omega arith
-  looks_few none = go (ltb o.capacity i.size) (fits o p i)
+  looks_few (Some reason) = omega arith
+  looks_few None = go (ltb o.capacity i.size) (fits o p i)
     where
       go : (b d : Bool) → (if b then 0 else if d then 1 + height o.stock else 1) ≤ 1 + height o.stock
       go true d = omega arith
@@ -149,7 +149,7 @@ module _ (o : Opening) where
       taking : {n : ℕ} → shelves_item c ≡ true → looks o p it (fault c) ≡ n → take 1 (drop j (looks_taken o cs)) ≡ n ∷ []
       taking shelves e = looks_at c later d ∙ ap (λ n. n ∷ []) (rw shelves e)
 
-      if_fits : shelves_item c ≡ true → fault c ≡ none → size_of c + o.trailer ≤ o.capacity → (t : Bool) → fits o p it ≡ t
+      if_fits : shelves_item c ≡ true → fault c ≡ None → size_of c + o.trailer ≤ o.capacity → (t : Bool) → fits o p it ≡ t
           → take 1 (drop j (looks_taken o cs)) ≡ (if t then 1 + height o.stock else 1) ∷ []
       if_fits shelves faultless within t e = taking shelves (looks_by o p it (fault c) faultless within ∙ ap (λ t. if t then 1 + height o.stock else 1) e)
 

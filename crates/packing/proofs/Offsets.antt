@@ -8,7 +8,7 @@ use lib.Dec.{eqb, ltb}
 use lib.ListN.{length, drop, length-drop}
 use borrow.Author.Tests.{ltb-false}
 use Rattle.std.specs.Prelude.{if◌then◌else◌}
-use Rattle.packing.specs.Prelude.{any, Opening, Command, WidthRow, Known, NoOpening, CutShort, OutsideLimits, TooFewWords}
+use Rattle.packing.specs.Prelude.{any, Opening, Command, WidthRow, Some, NoOpening, CutShort, OutsideLimits, TooFewWords}
 use Rattle.packing.specs.Limits.{opening_good, most_commands}
 use Rattle.packing.specs.Streams.{is_opening, opening_width, widths, lookup, opening_of, Front, whole, faulty, front_of}
 use Rattle.packing.specs.Streams.{Read, accepted, refused, follow, commands, read, lent, verdict}
@@ -26,18 +26,18 @@ longest = suc widest
 abbrev wider : WidthRow → Bool
 wider row = ltb widest row.width
 
-lookup_most : (b w : ℕ) (rows : List WidthRow) → any wider rows ≡ false → lookup b rows ≡ Known w → w ≤ widest
+lookup_most : (b w : ℕ) (rows : List WidthRow) → any wider rows ≡ false → lookup b rows ≡ Some w → w ≤ widest
 unfolding lookup any
 lookup_most b w [] t e = clash (cc)
 lookup_most b w (row ∷ rows) t e = go (eqb row.opcode b) (wider row) refl t e (lookup_most b w rows)
   where
-    go : (s x : Bool) → wider row ≡ x → (x || any wider rows) ≡ false → (if s then Known row.width else lookup b rows) ≡ Known w
-        → (any wider rows ≡ false → lookup b rows ≡ Known w → w ≤ widest) → w ≤ widest
+    go : (s x : Bool) → wider row ≡ x → (x || any wider rows) ≡ false → (if s then Some row.width else lookup b rows) ≡ Some w
+        → (any wider rows ≡ false → lookup b rows ≡ Some w → w ≤ widest) → w ≤ widest
     go s true p q r h = clash (cc)
     go true false p q r h = let same : row.width ≡ w = cc in omega (arith, ltb-false widest row.width p)
     go false false p q r h = h q r
 
-widths_most : (b w : ℕ) → lookup b widths ≡ Known w → w ≤ widest
+widths_most : (b w : ℕ) → lookup b widths ≡ Some w → w ≤ widest
 unfolding widths any
 widths_most b w e = lookup_most b w widths refl e
 

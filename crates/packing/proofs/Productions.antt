@@ -28,10 +28,6 @@ pub same_other : (q : Production) → is_same (other q) q ≡ false
 same_other First = refl
 same_other Second = refl
 
-pub other_other : (q : Production) → other (other q) ≡ q
-other_other First = refl
-other_other Second = refl
-
 pub other_apart : (q : Production) → other q ≡ q → ⊥
 other_apart First e = true≢false (ap (is_same Second) e)
 other_apart Second e = true≢false (ap (is_same First) e)

@@ -1,33 +1,34 @@
 -- Rows of sizes are refused exactly when they are not sound: each test of the chain as the inequality that it is.
 use Prim.Native.Nat.{ℕ, suc, ◌+◌, ◌≤◌, max}
 use mathlib.Core.Path.{◌≡◌, refl}
-use mathlib.Core.Bool.{Bool, true, false, not}
+use mathlib.Core.Bool.{Bool, true, false}
 use mathlib.Core.List.Memᴰ
 use mathlib.Core.List.{List, [], ◌∷◌, ◌++◌, Memᴰ}
 use native.Mathlib.Omega.{arith}
-use borrow.Author.Tests.{leb-true, le-leb, ltb-false, le-ltb}
-use lib.Dec.{leb, ltb}
+use borrow.Author.Tests.{leb-true, le-leb}
+use lib.Dec.{leb}
 use lib.ListN.{length}
 use Rattle.std.specs.Prelude.{if◌then◌else◌}
-use Rattle.packing.specs.Prelude.{RowReason, RowResult}
+use Rattle.packing.specs.Prelude.{RowReason, Ok, Err}
+use Rattle.packing.specs.Refusing.{RowResult, refuse, pass, pass_if, ◌and_then◌}
 use Rattle.packing.specs.Limits.{within, capacity_good, most_rows}
-use Rattle.packing.specs.Rows.{pass_if, ◌and_then◌, check_limits, check_sizes, check_words, check_row, check_pair, SoundRow, RowsExact, SoundPair, PairExact}
+use Rattle.packing.specs.Rows.{check_limits, check_sizes, check_words, check_row, check_pair, SoundRow, RowsExact, SoundPair, PairExact}
 use Rattle.packing.proofs.Tests.{clash, each_cons, each_append}
 use Rattle.packing.proofs.Limits.{within_limits, limits_within}
 
 module _ (c : ℕ) where
-  none_bad : (place : ℕ) (sizes : List ℕ) → check_sizes c place sizes ≡ RowResult.Sound → (s : ℕ) → Memᴰ s sizes → (1 ≤ s) × (s ≤ c)
+  none_bad : (place : ℕ) (sizes : List ℕ) → check_sizes c place sizes ≡ pass → (s : ℕ) → Memᴰ s sizes → (1 ≤ s) × (s ≤ c)
   unfolding check_sizes
   none_bad place [] h = λ s m. absurd (Memᴰ.not-nil m)
   none_bad place (s ∷ ss) h = go (within 1 c s) refl h (none_bad (suc place) ss)
     where
-      go : (t : Bool) → within 1 c s ≡ t → (if t then check_sizes c (suc place) ss else RowResult.Refused RowReason.SizeOutside place) ≡ RowResult.Sound
-          → (check_sizes c (suc place) ss ≡ RowResult.Sound → (x : ℕ) → Memᴰ x ss → (1 ≤ x) × (x ≤ c))
+      go : (t : Bool) → within 1 c s ≡ t → (if t then check_sizes c (suc place) ss else refuse RowReason.SizeOutside place) ≡ pass
+          → (check_sizes c (suc place) ss ≡ pass → (x : ℕ) → Memᴰ x ss → (1 ≤ x) × (x ≤ c))
           → (x : ℕ) → Memᴰ x (s ∷ ss) → (1 ≤ x) × (x ≤ c)
       go true e h r = each_cons (λ x. (1 ≤ x) × (x ≤ c)) (within_limits 1 c s e) (r h)
       go false e h r = clash (cc)
 
-  all_good : (place : ℕ) (sizes : List ℕ) → ((s : ℕ) → Memᴰ s sizes → (1 ≤ s) × (s ≤ c)) → check_sizes c place sizes ≡ RowResult.Sound
+  all_good : (place : ℕ) (sizes : List ℕ) → ((s : ℕ) → Memᴰ s sizes → (1 ≤ s) × (s ≤ c)) → check_sizes c place sizes ≡ pass
   unfolding check_sizes
   all_good place [] h = refl
   all_good place (s ∷ ss) h =
@@ -42,29 +43,29 @@ record Passes (c longest : ℕ) (sizes : List ℕ) (needed words : ℕ) : Type 0
   words_enough : needed ≤ words
 
 -- In a chain that comes to nothing, none refuses.
-none_refuses : (first later : RowResult) → (first and_then later) ≡ RowResult.Sound → (first ≡ RowResult.Sound) × (later ≡ RowResult.Sound)
-none_refuses RowResult.Sound later h = (refl, h)
-none_refuses (RowResult.Refused reason place) later h = clash (cc)
+none_refuses : (first later : RowResult) → (first and_then later) ≡ pass → (first ≡ pass) × (later ≡ pass)
+none_refuses (Ok tt) later h = (refl, h)
+none_refuses (Err r) later h = clash (cc)
 
-good_where : (t : Bool) (reason : RowReason) → pass_if t reason ≡ RowResult.Sound → t ≡ true
+good_where : (t : Bool) (reason : RowReason) → pass_if t reason 0 ≡ pass → t ≡ true
 good_where true reason h = refl
 good_where false reason h = clash (cc)
 
 module _ (c longest : ℕ) where
-  limits_good : check_limits c longest ≡ RowResult.Sound → (capacity_good c ≡ true) × (longest ≤ most_rows)
+  limits_good : check_limits c longest ≡ pass → (capacity_good c ≡ true) × (longest ≤ most_rows)
   unfolding check_limits
   limits_good h =
-      let both = none_refuses (pass_if (capacity_good c) RowReason.CapacityOutside) (pass_if (leb longest most_rows) RowReason.TooLong) h in
+      let both = none_refuses (pass_if (capacity_good c) RowReason.CapacityOutside 0) (pass_if (leb longest most_rows) RowReason.TooLong 0) h in
       (good_where (capacity_good c) RowReason.CapacityOutside both.0, leb-true longest most_rows (good_where (leb longest most_rows) RowReason.TooLong both.1))
 
-  pub rows_few : check_limits c longest ≡ RowResult.Sound → longest ≤ most_rows
+  pub rows_few : check_limits c longest ≡ pass → longest ≤ most_rows
   rows_few h = (limits_good h).1
 
 module _ (c longest : ℕ) (sizes : List ℕ) (needed words : ℕ) where
   abbrev chain : RowResult
   chain = check_limits c longest and_then check_sizes c 1 sizes and_then check_words needed words
 
-  sound_passes : chain ≡ RowResult.Sound → Passes c longest sizes needed words
+  sound_passes : chain ≡ pass → Passes c longest sizes needed words
   sound_passes h =
       let both = none_refuses (check_limits c longest) (check_sizes c 1 sizes and_then check_words needed words) h in
       let rest = none_refuses (check_sizes c 1 sizes) (check_words needed words) both.1 in
@@ -75,38 +76,21 @@ module _ (c longest : ℕ) (sizes : List ℕ) (needed words : ℕ) where
         words_enough = leb-true needed words (good_where (leb needed words) RowReason.TooFewWords rest.1);
       }
 
-  passes_sound : Passes c longest sizes needed words → chain ≡ RowResult.Sound
+  passes_sound : Passes c longest sizes needed words → chain ≡ pass
   unfolding check_limits
   passes_sound g =
       rw (g.capacity_is_good, le-leb longest most_rows g.rows_good, all_good c 1 sizes g.sizes_good, le-leb needed words g.words_enough)
 
 module _ (c words : ℕ) (sizes : List ℕ) where
-  pub passed_sound : check_row c words sizes ≡ RowResult.Sound → SoundRow c words sizes
-  unfolding check_row
-  passed_sound = go (capacity_good c) (ltb most_rows (length sizes)) (check_sizes c 1 sizes) (ltb words (length sizes)) refl refl refl refl
-    where
-      go : (t u : Bool) (sized : RowResult) (v : Bool) → capacity_good c ≡ t → ltb most_rows (length sizes) ≡ u → check_sizes c 1 sizes ≡ sized → ltb words (length sizes) ≡ v
-          → (if not t then RowResult.Refused RowReason.CapacityOutside 0 else
-          if u then RowResult.Refused RowReason.TooLong 0 else
-          elim sized [
-            | RowResult.Refused reason place ↦ RowResult.Refused reason place
-            | RowResult.Sound ↦ if v then RowResult.Refused RowReason.TooFewWords 0 else RowResult.Sound
-          ]) ≡ RowResult.Sound → SoundRow c words sizes
-      go false u sized v p q r w h = clash (cc)
-      go true true sized v p q r w h = clash (cc)
-      go true false (RowResult.Refused reason place) v p q r w h = clash (cc)
-      go true false RowResult.Sound true p q r w h = clash (cc)
-      go true false RowResult.Sound false p q r w h = record {
-        capacity_is_good = p;
-        rows_good = ltb-false most_rows (length sizes) q;
-        sizes_good = none_bad c 1 sizes r;
-        words_enough = ltb-false words (length sizes) w;
-      }
+  pub passed_sound : check_row c words sizes ≡ pass → SoundRow c words sizes
+  passed_sound h =
+      let g = sound_passes c (length sizes) sizes (length sizes) words h in
+      record { capacity_is_good = g.capacity_is_good; rows_good = g.rows_good; sizes_good = g.sizes_good; words_enough = g.words_enough }
 
-  pub sound_passed : SoundRow c words sizes → check_row c words sizes ≡ RowResult.Sound
-  unfolding check_row
+  pub sound_passed : SoundRow c words sizes → check_row c words sizes ≡ pass
   sound_passed g =
-      rw (g.capacity_is_good, le-ltb most_rows (length sizes) g.rows_good, all_good c 1 sizes g.sizes_good, le-ltb words (length sizes) g.words_enough)
+      passes_sound c (length sizes) sizes (length sizes) words
+      (record { capacity_is_good = g.capacity_is_good; rows_good = g.rows_good; sizes_good = g.sizes_good; words_enough = g.words_enough })
 
 pub rows_exact : RowsExact
 rows_exact c words sizes = (passed_sound c words sizes, sound_passed c words sizes)
@@ -115,7 +99,7 @@ module _ (c words : ℕ) (pictures sounds : List ℕ) where
   abbrev longest : ℕ
   longest = max (length pictures) (length sounds)
 
-  pub passed_pair : check_pair c words pictures sounds ≡ RowResult.Sound → SoundPair c words pictures sounds
+  pub passed_pair : check_pair c words pictures sounds ≡ pass → SoundPair c words pictures sounds
   passed_pair h =
       let g = sound_passes c longest (pictures ++ sounds) (length pictures) words h in
       record {
@@ -127,7 +111,7 @@ module _ (c words : ℕ) (pictures sounds : List ℕ) where
         words_enough = g.words_enough;
       }
 
-  pair_passed : SoundPair c words pictures sounds → check_pair c words pictures sounds ≡ RowResult.Sound
+  pair_passed : SoundPair c words pictures sounds → check_pair c words pictures sounds ≡ pass
   pair_passed g =
       passes_sound c longest (pictures ++ sounds) (length pictures) words
       (record {
@@ -147,7 +131,7 @@ check_both c place [] second = let here : place + 0 ≡ place = omega arith in r
 check_both c place (s ∷ ss) second = go (within 1 c s) (check_both c (suc place) ss second)
   where
     go : (t : Bool) → check_sizes c (suc place) (ss ++ second) ≡ (check_sizes c (suc place) ss and_then check_sizes c (suc place + length ss) second)
-        → (if t then check_sizes c (suc place) (ss ++ second) else RowResult.Refused RowReason.SizeOutside place)
-        ≡ ((if t then check_sizes c (suc place) ss else RowResult.Refused RowReason.SizeOutside place) and_then check_sizes c (place + suc (length ss)) second)
+        → (if t then check_sizes c (suc place) (ss ++ second) else refuse RowReason.SizeOutside place)
+        ≡ ((if t then check_sizes c (suc place) ss else refuse RowReason.SizeOutside place) and_then check_sizes c (place + suc (length ss)) second)
     go true r = let on : place + suc (length ss) ≡ suc place + length ss = omega arith in rw on r
     go false r = refl

@@ -4,7 +4,7 @@ use Prim.Native.Nat.{ℕ, ◌≤◌}
 use mathlib.Core.Path.{◌≡◌, refl, ap}
 use mathlib.Core.Bool.{Bool, true, false, false≢true}
 use mathlib.Core.List.{List, [], ◌∷◌, map, map-map, Memᴰ}
-use mathlib.Core.Option.{Option, none, some}
+use Rattle.std.specs.Prelude.{Option, None, Some}
 use native.Mathlib.Omega.{arith}
 use borrow.Author.Tests.{leb-true}
 use Rattle.std.specs.Prelude.{if◌then◌else◌}
@@ -18,12 +18,12 @@ use Rattle.packing.proofs.Weights.{weight_of}
 
 -- A size within the range of an item: it is unsettled, and the size is no more than the greatest.
 range_some : (least : Option ℕ) (greatest size : ℕ) → ranges least greatest size ≡ true → has_range least ≡ true
-range_some none greatest size e = absurd (false≢true e)
-range_some (some least) greatest size e = refl
+range_some None greatest size e = absurd (false≢true e)
+range_some (Some least) greatest size e = refl
 
 range_most : (least : Option ℕ) (greatest size : ℕ) → ranges least greatest size ≡ true → size ≤ greatest
-range_most none greatest size e = absurd (false≢true e)
-range_most (some least) greatest size e = leb-true size greatest (both_true (least ≤? size) (size ≤? greatest) e).1
+range_most None greatest size e = absurd (false≢true e)
+range_most (Some least) greatest size e = leb-true size greatest (both_true (least ≤? size) (size ≤? greatest) e).1
 
 pub in_range_some : (size : ℕ) (i : Item) → in_range size i ≡ true → unsettled i ≡ true
 in_range_some size i e = range_some i.least i.greatest size e

@@ -3,7 +3,7 @@
 use Prim.Native.Nat.{ℕ, suc, ◌+◌, ◌≤◌, ◌<◌}
 use mathlib.Core.Path.{◌≡◌, refl, ap, ◌∙◌}
 use mathlib.Core.Bool.{Bool, true, false, ◌&&◌, false≢true}
-use mathlib.Core.Option.{none, some}
+use Rattle.std.specs.Prelude.{None, Some}
 use mathlib.Core.List.Memᴰ
 use mathlib.Core.List.{List, [], ◌∷◌, Memᴰ}
 use native.Mathlib.Omega.{arith}
@@ -72,30 +72,30 @@ module _ (o : Opening) (s : Shelf) (n : ℕ) (c : Command) where
   left = stock_left o s
 
   faulty_only : (reason : ItemReason) → (reason ≡ AboveCapacity → ⊥) → (reason ≡ StockSpent → ⊥) → (d : Decision) → Decided o p i left (fault c) d
-      → told o (placed o p i) d ≡ Refused reason → fault c ≡ some reason
+      → told o (placed o p i) d ≡ Refused reason → fault c ≡ Some reason
   faulty_only reason x y d (goes_in h) e = clash (cc)
-  faulty_only reason x y d (is_faulty r f) e = f ∙ ap some (cc)
+  faulty_only reason x y d (is_faulty r f) e = f ∙ ap Some (cc)
   faulty_only reason x y d (is_above f m) e = absurd (x (cc))
   faulty_only reason x y d (is_spent_lem f m z) e = absurd (y (cc))
 
-  faulty_then : (reason : ItemReason) → fault c ≡ some reason → shelved_as o left p n c ≡ Refused reason
+  faulty_then : (reason : ItemReason) → fault c ≡ Some reason → shelved_as o left p n c ≡ Refused reason
   faulty_then reason e = ap (told o (placed o p i)) (decides o p i left (fault c) _ (is_faulty reason e))
 
-  above_only : (fault c ≡ some AboveCapacity → ⊥) → (d : Decision) → Decided o p i left (fault c) d → told o (placed o p i) d ≡ Refused AboveCapacity
-      → (fault c ≡ none) × (o.capacity < i.size)
+  above_only : (fault c ≡ Some AboveCapacity → ⊥) → (d : Decision) → Decided o p i left (fault c) d → told o (placed o p i) d ≡ Refused AboveCapacity
+      → (fault c ≡ None) × (o.capacity < i.size)
   above_only x d (goes_in h) e = clash (cc)
-  above_only x d (is_faulty reason f) e = absurd (x (f ∙ ap some (cc)))
+  above_only x d (is_faulty reason f) e = absurd (x (f ∙ ap Some (cc)))
   above_only x d (is_above f m) e = (f, m)
   above_only x d (is_spent_lem f m z) e = clash (cc)
 
-  above_then : fault c ≡ none → o.capacity < i.size → shelved_as o left p n c ≡ Refused AboveCapacity
+  above_then : fault c ≡ None → o.capacity < i.size → shelved_as o left p n c ≡ Refused AboveCapacity
   above_then f m = ap (told o (placed o p i)) (decides o p i left (fault c) _ (is_above f m))
 
   -- 10 where it has no fault, and the stock is spent for the production that is current.
-  spent_only : (fault c ≡ some StockSpent → ⊥) → (d : Decision) → Decided o p i left (fault c) d → told o (placed o p i) d ≡ Refused StockSpent
-      → (fault c ≡ none) × Spent o s i
+  spent_only : (fault c ≡ Some StockSpent → ⊥) → (d : Decision) → Decided o p i left (fault c) d → told o (placed o p i) d ≡ Refused StockSpent
+      → (fault c ≡ None) × Spent o s i
   spent_only x d (goes_in h) e = clash (cc)
-  spent_only x d (is_faulty reason f) e = absurd (x (f ∙ ap some (cc)))
+  spent_only x d (is_faulty reason f) e = absurd (x (f ∙ ap Some (cc)))
   spent_only x d (is_above f m) e = clash (cc)
   spent_only x d (is_spent_lem f m z) e =
       let both = both_true (ltb (opened p) (bin_for o p i)) (leb left (opened p)) z in
@@ -108,7 +108,7 @@ module _ (o : Opening) (s : Shelf) (n : ℕ) (c : Command) where
         },
       )
 
-  spent_then : fault c ≡ none → Spent o s i → shelved_as o left p n c ≡ Refused StockSpent
+  spent_then : fault c ≡ None → Spent o s i → shelved_as o left p n c ≡ Refused StockSpent
   spent_then f h =
       let all = passes_all (takes o p i) p.bins (λ b m. refuses o p i b (h.no_space b m)) in
       ap (told o (placed o p i))

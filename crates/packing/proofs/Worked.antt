@@ -11,9 +11,9 @@ use Rattle.packing.specs.Run.{run_from, shelf_from, steps_of}
 use Rattle.packing.specs.Counting.{stock_places, walk}
 use Rattle.packing.specs.Plans.{limits, fault, entries, check}
 use Rattle.packing.specs.Compared.{used}
-use Rattle.packing.specs.Rows.{check_limits, check_sizes, check_row}
+use Rattle.packing.specs.Rows.{check_limits, check_sizes}
 use Rattle.packing.specs.Worked.{table}
 
 pub worked_shelves : map (λ c. c.0) table ≡ map (λ c. c.1) table
-unfolding table size_class total greatest any keep first_fit put decision placed height_from looks without withdrawal settling settlement run_from shelf_from steps_of stock_places walk zip_with flatten used limits fault entries check check_limits check_sizes check_row widths lookup commands read
+unfolding table size_class total greatest any keep first_fit put decision placed height_from looks without withdrawal settling settlement run_from shelf_from steps_of stock_places walk zip_with flatten used limits fault entries check check_limits check_sizes widths lookup commands read
 worked_shelves = refl

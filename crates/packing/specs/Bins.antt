@@ -1,6 +1,6 @@
 -- Items, bins and packings: document 01's masters, cartridges and shelf.
 use Rattle.std.specs.Prelude.{◌+◌, ◌-◌, ◌&&◌, ◌∷◌}
-use Rattle.packing.specs.Prelude.{ℕ, zero, suc, Bool, true, false, Option, none, some, List, [], map, length, get_or, total, any, ◌≤?◌, Opening, SizeClass}
+use Rattle.packing.specs.Prelude.{ℕ, zero, suc, Bool, true, false, Option, None, Some, List, [], map, length, get_or, total, any, ◌≤?◌, Opening, SizeClass}
 use Rattle.packing.specs.SizeClasses.{size_class, is_a}
 
 -- A master: the number of the command that shelved it; its whole number of units, the trailer with them, which is the size that counts; the size that it
@@ -61,15 +61,15 @@ holds_a o b = holds (λ i. is_a (kind o i)) b
 
 -- An item whose size is known within a range only, and the stored sizes that it may turn out to have.
 abbrev pub has_range : (least : Option ℕ) → Bool
-has_range none = false
-has_range (some least) = true
+has_range None = false
+has_range (Some least) = true
 
 abbrev pub unsettled : Item → Bool
 unsettled i = has_range i.least
 
 abbrev pub ranges : (least : Option ℕ) (greatest size : ℕ) → Bool
-ranges none greatest size = false
-ranges (some least) greatest size = (least ≤? size) && (size ≤? greatest)
+ranges None greatest size = false
+ranges (Some least) greatest size = (least ≤? size) && (size ≤? greatest)
 
 abbrev pub in_range : (size : ℕ) → Item → Bool
 in_range size i = ranges i.least i.greatest size

@@ -1,10 +1,10 @@
 -- What is promised of the model, as statements; ../proofs shows each of every opening and every list of commands. Demand 3 and the plan of a packing's
 -- own answers are stated in the crate worst_case.
 use Rattle.std.specs.Prelude.{◌+◌, ◌*◌, ◌^◌, ◌≤◌, ◌<◌, ◌≡◌, ◌↔◌, ◌⊎◌, ◌||◌, ◌∷◌, ◌++◌, if◌then◌else◌}
-use Rattle.packing.specs.Prelude.{ℕ, suc, min, Bool, true, false, none}
+use Rattle.packing.specs.Prelude.{ℕ, suc, min, Bool, true, false, None}
 use Rattle.packing.specs.Prelude.{List, [], map, zip_with, flatten, reverse, length, take, drop, Memᴰ, total, any, keep, ◌=?◌}
 use Rattle.packing.specs.Prelude.{Opening, SizeClass, A, B1, B2, X, Production, First, Second, Command, Shelve, Count, Withdraw, Switch, Reserve, Settle, Outcome, Placed, Withdrawn, Switched, Settled, Refused, ItemReason, SizeZero, AboveCapacity, StockSpent, NotShelved, RangeWrong, NotReserved, OutsideRange}
-use Rattle.packing.specs.Prelude.{StreamResult, PlanResult, RepackResult, PairResult}
+use Rattle.packing.specs.Refusing.{StreamResult, PlanResult, RepackResult, PairResult}
 use Rattle.packing.specs.Productions.{other}
 use Rattle.packing.specs.Refusals.{is_refused, is_placed, is_withdrawn, is_settled, bins_named, word, free_units, outcome_of, figures, stream_gives, plan_gives, repack_gives, pair_gives}
 use Rattle.packing.specs.SizeClasses.{size_class, count_b2}
@@ -221,12 +221,12 @@ module _ (o : Opening) (cs : List Command) where
   pub record Looks : Type 0 where
     pub height_is : IsHeight o.stock (height o.stock)
     -- "Every master that passes the checks before 10 makes exactly one search, of 1 look if nothing fits and of 1 + h otherwise."
-    pub nothing_fits : (j : ℕ) (c : Command) (later : List Command) → drop j cs ≡ c ∷ later → shelves_item c ≡ true → fault c ≡ none
+    pub nothing_fits : (j : ℕ) (c : Command) (later : List Command) → drop j cs ≡ c ∷ later → shelves_item c ≡ true → fault c ≡ None
         → size_of c + o.trailer ≤ o.capacity → (Fitting j c → ⊥) → take 1 (drop j (looks_taken o cs)) ≡ 1 ∷ []
-    pub fits : (j : ℕ) (c : Command) (later : List Command) → drop j cs ≡ c ∷ later → shelves_item c ≡ true → fault c ≡ none
+    pub fits : (j : ℕ) (c : Command) (later : List Command) → drop j cs ≡ c ∷ later → shelves_item c ≡ true → fault c ≡ None
         → size_of c + o.trailer ≤ o.capacity → Fitting j c → take 1 (drop j (looks_taken o cs)) ≡ (1 + height o.stock) ∷ []
     -- One that does not pass them makes none, and no other command does.
-    pub not_searched : (j : ℕ) (c : Command) (later : List Command) → drop j cs ≡ c ∷ later → (fault c ≡ none → ⊥) ⊎ (o.capacity < size_of c + o.trailer)
+    pub not_searched : (j : ℕ) (c : Command) (later : List Command) → drop j cs ≡ c ∷ later → (fault c ≡ None → ⊥) ⊎ (o.capacity < size_of c + o.trailer)
         → take 1 (drop j (looks_taken o cs)) ≡ 0 ∷ []
     pub others : (j : ℕ) (c : Command) (later : List Command) → drop j cs ≡ c ∷ later → shelves_item c ≡ false → take 1 (drop j (looks_taken o cs)) ≡ 0 ∷ []
     -- "No placement takes more than 1 + h looks."

@@ -2,6 +2,7 @@
 pub mod Prelude
 pub mod Limits
 pub mod Productions
+pub mod Refusing
 pub mod Refusals
 pub mod SizeClasses
 pub mod Bins

@@ -1,7 +1,7 @@
 -- "Looks per placement" (document 02, point 8): how many looks a search takes, and which items are searched for. By the packing alone: what fits, and what
 -- does not.
 use Rattle.std.specs.Prelude.{◌+◌, ◌^◌, if◌then◌else◌}
-use Rattle.packing.specs.Prelude.{ℕ, zero, suc, Bool, true, false, Option, none, some, any, ◌≤?◌, ◌<?◌, Opening, ItemReason}
+use Rattle.packing.specs.Prelude.{ℕ, zero, suc, Bool, true, false, Option, None, Some, any, ◌≤?◌, ◌<?◌, Opening, ItemReason}
 use Rattle.packing.specs.Bins.{Item, Packing}
 use Rattle.packing.specs.Placing.{takes}
 
@@ -25,7 +25,7 @@ module _ (o : Opening) (p : Packing) (i : Item) where
   -- "Every master that passes the checks before 10 makes exactly one search, of 1 look if nothing fits and of 1 + h otherwise", h by the whole stock. The
   -- checks before 10 are 8, or 19 in its place, and 9.
   unfoldable pub looks : (fault : Option ItemReason) → ℕ
-  looks (some reason) = 0
-  looks none =
+  looks (Some reason) = 0
+  looks None =
       if o.capacity <? i.size then 0 else
       if fits then 1 + height o.stock else 1

@@ -1,6 +1,6 @@
 -- "Where a master goes": Refined First-Fit, one item at a time.
 use Rattle.std.specs.Prelude.{◌+◌, ◌%◌, ◌&&◌, ◌∷◌, if◌then◌else◌}
-use Rattle.packing.specs.Prelude.{ℕ, suc, Bool, Option, none, some, List, [], ◌=?◌, ◌≤?◌, ◌<?◌, Opening}
+use Rattle.packing.specs.Prelude.{ℕ, suc, Bool, Option, None, Some, List, [], ◌=?◌, ◌≤?◌, ◌<?◌, Opening}
 use Rattle.packing.specs.Prelude.{SizeClass, A, B1, B2, X, ItemReason, AboveCapacity, StockSpent}
 use Rattle.packing.specs.SizeClasses.{count_b2}
 use Rattle.packing.specs.Bins.{Item, Bin, Packing, opened, load, add, kind, holds_a}
@@ -63,8 +63,8 @@ module _ (o : Opening) where
 
     -- For one item the order is 8, 9, 10, or 19, 9, 10: the fault of the bare sizes that were sent, if they have one, and then what goes by the stored size.
     unfoldable pub decision : (left : ℕ) (fault : Option ItemReason) → Decision
-    decision left (some reason) = refusing reason
-    decision left none =
+    decision left (Some reason) = refusing reason
+    decision left None =
         if o.capacity <? i.size then refusing AboveCapacity else
         if spent left then refusing StockSpent else
         into bin_for

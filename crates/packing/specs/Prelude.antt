@@ -1,15 +1,13 @@
 -- The words that the model is written in: the library's, the types shared with the code, tests on numbers, and four functions on lists.
-pub use Rattle.std.specs.Prelude.{ℕ, zero, suc, min, max, refl, Bool, true, false, not, length, take, drop, replicate, get_or}
-pub use Rattle.std.proofs.Math.Option.{Option, none, some}
+pub use Rattle.std.specs.Prelude.{ℕ, zero, suc, min, max, refl, Bool, true, false, not, Option, Some, None, Result, Ok, Err, length, take, drop, replicate, get_or}
 pub use mathlib.Core.List.{List, [], map, foldl, reverse, Memᴰ}
 unfoldable pub use mathlib.Core.List.{zip_with, flatten}
-pub use Rattle.packing.specs.declared.{Opening.Opening, SizeClass.SizeClass, PerClass.PerClass, Production.Production, Command.Command, WidthRow.WidthRow, Width.Width}
-pub use Rattle.packing.specs.declared.{ItemReason.ItemReason, Outcome.Outcome, Answer.Answer, Tally.Tally, StreamReason.StreamReason, StreamResult.StreamResult}
-pub use Rattle.packing.specs.declared.{Entry.Entry, PlanReason.PlanReason, PlanResult.PlanResult, RowReason.RowReason, RowResult.RowResult, RepackResult.RepackResult, PairResult.PairResult}
+pub use Rattle.packing.specs.declared.{Opening.Opening, SizeClass.SizeClass, PerClass.PerClass, Production.Production, Command.Command, WidthRow.WidthRow}
+pub use Rattle.packing.specs.declared.{ItemReason.ItemReason, Outcome.Outcome, Answer.Answer, Tally.Tally, StreamReason.StreamReason, StreamTotals.StreamTotals}
+pub use Rattle.packing.specs.declared.{Entry.Entry, PlanReason.PlanReason, RowReason.RowReason, Repacked.Repacked, Refusal.Refusal}
 pub use Rattle.packing.specs.declared.SizeClass.TheVariants.{A, B1, B2, X}
 pub use Rattle.packing.specs.declared.Production.TheVariants.{First, Second}
 pub use Rattle.packing.specs.declared.Command.TheVariants.{Shelve, Count, Withdraw, Switch, Reserve, Settle}
-pub use Rattle.packing.specs.declared.Width.TheVariants.{Known, Unknown}
 pub use Rattle.packing.specs.declared.Outcome.TheVariants.{Placed, Counted, Withdrawn, Switched, Settled, Refused}
 pub use Rattle.packing.specs.declared.ItemReason.TheVariants.{SizeZero, AboveCapacity, StockSpent, NotShelved, RangeWrong, NotReserved, OutsideRange}
 pub use Rattle.packing.specs.declared.StreamReason.TheVariants.{NoOpening, UnknownOpcode, CutShort, SecondOpening, OutsideLimits, TooManyCommands, TooFewWords, NoProduction}

@@ -1,9 +1,10 @@
 -- "What a refusal gives": the number of each refusal, the answer word of an outcome, and what a result gives in document 01's numbers.
 use Rattle.std.specs.Prelude.{◌+◌, ◌-◌, ◌∷◌, if◌then◌else◌}
-use Rattle.packing.specs.Prelude.{ℕ, Bool, true, false, List, [], ◌=?◌, ◌<?◌, Command, Shelve, Count, Withdraw, Switch, Reserve, Settle, StreamResult, PlanResult, RowReason, RepackResult, PairResult}
+use Rattle.packing.specs.Prelude.{ℕ, Bool, true, false, List, [], ◌=?◌, ◌<?◌, Command, Shelve, Count, Withdraw, Switch, Reserve, Settle, RowReason, Ok, Err}
 use Rattle.packing.specs.Prelude.{Outcome, Placed, Counted, Withdrawn, Switched, Settled, Refused, ItemReason, SizeZero, AboveCapacity, StockSpent, NotShelved, RangeWrong, NotReserved, OutsideRange}
 use Rattle.packing.specs.Prelude.{StreamReason, NoOpening, UnknownOpcode, CutShort, SecondOpening, OutsideLimits, TooManyCommands, TooFewWords, NoProduction}
 use Rattle.packing.specs.Prelude.{PlanReason, CapacityOutside, TooLong, SizeOutside, BinOutside, Overfull, OtherItems}
+use Rattle.packing.specs.Refusing.{StreamResult, PlanResult, RepackResult, PairResult}
 use Rattle.packing.specs.Productions.{production_number, production_of}
 
 abbrev pub stream_number : StreamReason → ℕ
@@ -137,20 +138,20 @@ pub data Returned : Type 0 where
 -- "An accepted stream returns the masters accepted and the cartridges opened": of the masters "those returned … are of masters still shelved", and they
 -- "total both" productions; the last figure is the largest looks.
 abbrev pub stream_gives : StreamResult → Returned
-stream_gives (StreamResult.Accepted items opened looks) = figures (items ∷ opened ∷ looks ∷ [])
-stream_gives (StreamResult.Refused reason offset) = refusal (stream_number reason) offset
+stream_gives (Ok totals) = figures (totals.items ∷ totals.opened ∷ totals.looks ∷ [])
+stream_gives (Err r) = refusal (stream_number r.reason) r.place
 
 -- "The answer is passed alone, without number or place."
 abbrev pub plan_gives : PlanResult → Returned
-plan_gives PlanResult.Passed = figures []
-plan_gives (PlanResult.Refused reason place) = refusal (plan_number reason) place
+plan_gives (Ok passed) = figures []
+plan_gives (Err r) = refusal (plan_number r.reason) r.place
 
 -- "The new count is returned", and "the answer also says that the move saves nothing": 1 if it does, else 0.
 abbrev pub repack_gives : RepackResult → Returned
-repack_gives (RepackResult.Repacked count saves_nothing) = figures (count ∷ (if saves_nothing then 1 else 0) ∷ [])
-repack_gives (RepackResult.Refused reason place) = refusal (row_number reason) place
+repack_gives (Ok repacked) = figures (repacked.count ∷ (if repacked.saves_nothing then 1 else 0) ∷ [])
+repack_gives (Err r) = refusal (row_number r.reason) r.place
 
 -- "The number of pairs is returned."
 abbrev pub pair_gives : PairResult → Returned
-pair_gives (PairResult.Paired pairs) = figures (pairs ∷ [])
-pair_gives (PairResult.Refused reason place) = refusal (row_number reason) place
+pair_gives (Ok pairs) = figures (pairs ∷ [])
+pair_gives (Err r) = refusal (row_number r.reason) r.place

@@ -1,39 +1,26 @@
 -- What the calls over rows of sizes refuse (document 02, from point 10 on).
 use Rattle.std.specs.Prelude.{◌≤◌, ◌≡◌, ◌↔◌, ◌∷◌, ◌++◌, if◌then◌else◌}
-use Rattle.packing.specs.Prelude.{ℕ, suc, max, Bool, true, not, List, [], Memᴰ, length, ◌≤?◌, ◌<?◌, RowReason, RowResult}
+use Rattle.packing.specs.Prelude.{ℕ, suc, max, true, List, [], Memᴰ, length, ◌≤?◌, RowReason}
+use Rattle.packing.specs.Refusing.{RowResult, refuse, pass, pass_if, ◌and_then◌}
 use Rattle.packing.specs.Limits.{within, capacity_good, most_rows}
-
--- One test, which refuses with place 0, and one test after another: the first that refuses answers.
-abbrev pub pass_if : (good : Bool) → RowReason → RowResult
-pass_if good reason = if good then RowResult.Sound else RowResult.Refused reason 0
-
-infixr 20 ◌and_then◌
-abbrev pub ◌and_then◌ : RowResult → RowResult → RowResult
-RowResult.Sound and_then later = later
-RowResult.Refused reason place and_then later = RowResult.Refused reason place
 
 -- 11, and 12 where the longest row has so many sizes.
 unfoldable pub check_limits : (capacity longest : ℕ) → RowResult
-check_limits capacity longest = pass_if (capacity_good capacity) RowReason.CapacityOutside and_then pass_if (longest ≤? most_rows) RowReason.TooLong
+check_limits capacity longest = pass_if (capacity_good capacity) RowReason.CapacityOutside 0 and_then pass_if (longest ≤? most_rows) RowReason.TooLong 0
 
 -- 13, at the first size that is 0 or above the capacity, where the places are counted on from this one.
 unfoldable pub check_sizes : (capacity place : ℕ) (sizes : List ℕ) → RowResult
-check_sizes capacity place [] = RowResult.Sound
-check_sizes capacity place (s ∷ ss) = if within 1 capacity s then check_sizes capacity (suc place) ss else RowResult.Refused RowReason.SizeOutside place
+check_sizes capacity place [] = pass
+check_sizes capacity place (s ∷ ss) = if within 1 capacity s then check_sizes capacity (suc place) ss else refuse RowReason.SizeOutside place
 
 -- 22, where so many answer words are lent, and so many are needed.
 abbrev pub check_words : (needed words : ℕ) → RowResult
-check_words needed words = pass_if (needed ≤? words) RowReason.TooFewWords
+check_words needed words = pass_if (needed ≤? words) RowReason.TooFewWords 0
 
 -- "22 with place 0, answer row shorter than the sizes, after the checker's 11, 12 (the row alone) and 13 in that order." So many answer words are lent.
-unfoldable pub check_row : (capacity words : ℕ) (sizes : List ℕ) → RowResult
+abbrev pub check_row : (capacity words : ℕ) (sizes : List ℕ) → RowResult
 check_row capacity words sizes =
-    if not (capacity_good capacity) then RowResult.Refused RowReason.CapacityOutside 0 else
-    if most_rows <? length sizes then RowResult.Refused RowReason.TooLong 0 else
-    elim (check_sizes capacity 1 sizes) [
-      | RowResult.Refused reason place ↦ RowResult.Refused reason place
-      | RowResult.Sound ↦ if words <? length sizes then RowResult.Refused RowReason.TooFewWords 0 else RowResult.Sound
-    ]
+    check_limits capacity (length sizes) and_then check_sizes capacity 1 sizes and_then check_words (length sizes) words
 
 -- "Refusals 11, 12 (either row above 4,096), 13 (pictures, then sounds, whose places count on after the last picture) and 22 (fewer answer words than
 -- pictures) apply in that order."
@@ -52,7 +39,7 @@ pub record SoundRow (capacity words : ℕ) (sizes : List ℕ) : Type 0 where
 
 -- A row is refused exactly when it is not such a one. Proved in ../proofs/Rows.antt.
 abbrev pub RowsExact : Type 0
-RowsExact = (capacity words : ℕ) (sizes : List ℕ) → (check_row capacity words sizes ≡ RowResult.Sound) ↔ SoundRow capacity words sizes
+RowsExact = (capacity words : ℕ) (sizes : List ℕ) → (check_row capacity words sizes ≡ pass) ↔ SoundRow capacity words sizes
 
 -- What two rows are that are not refused.
 pub record SoundPair (capacity words : ℕ) (pictures sounds : List ℕ) : Type 0 where
@@ -67,4 +54,4 @@ pub record SoundPair (capacity words : ℕ) (pictures sounds : List ℕ) : Type 
 abbrev pub PairExact : Type 0
 PairExact =
     (capacity words : ℕ) (pictures sounds : List ℕ)
-    → (check_pair capacity words pictures sounds ≡ RowResult.Sound) ↔ SoundPair capacity words pictures sounds
+    → (check_pair capacity words pictures sounds ≡ pass) ↔ SoundPair capacity words pictures sounds

@@ -2,7 +2,8 @@
 use Rattle.std.specs.Prelude.{◌+◌, ◌∷◌, ◌++◌, if◌then◌else◌}
 use Rattle.packing.specs.Prelude.{ℕ, suc, true, false, not, List, [], map, foldl, flatten, length, drop, keep, greatest}
 use Rattle.packing.specs.Prelude.{Opening, Production, First, Second, Command, Shelve, Count, Withdraw, Switch, Reserve, Settle}
-use Rattle.packing.specs.Prelude.{Outcome, Placed, Counted, Withdrawn, Switched, Settled, Refused, Answer, Entry, StreamResult}
+use Rattle.packing.specs.Prelude.{Outcome, Placed, Counted, Withdrawn, Switched, Settled, Refused, Answer, Entry, Ok}
+use Rattle.packing.specs.Refusing.{StreamResult, refuse}
 use Rattle.packing.specs.Productions.{is_same}
 use Rattle.packing.specs.Refusals.{is_refused}
 use Rattle.packing.specs.Bins.{Item, Packing, opened, free_on, stored}
@@ -166,11 +167,13 @@ module _ (o : Opening) (q : Production) (cs : List Command) where
 -- What the call returns: the items still shelved and the bins opened, of both productions, and the largest looks; or the refusal.
 abbrev pub result : Read → StreamResult
 result (accepted o cs) =
-    StreamResult.Accepted
-    (length (still_shelved o First cs) + length (still_shelved o Second cs))
-    (opened (packing o First cs) + opened (packing o Second cs))
-    (most_looks o cs)
-result (refused reason offset) = StreamResult.Refused reason offset
+    Ok
+    (record {
+      items = length (still_shelved o First cs) + length (still_shelved o Second cs);
+      opened = opened (packing o First cs) + opened (packing o Second cs);
+      looks = most_looks o cs;
+    })
+result (refused reason offset) = refuse reason offset
 
 -- A row at exit, by what it tells of an outcome: the answer row by `word`, the row of free units by `freeUnits`. Word n is of command n, and words past
 -- the last command are untouched; all are where the stream is refused.

@@ -1,6 +1,6 @@
 -- What a command sends: the item that 02 or 06 is to shelve, the fault of its bare sizes, and the item that 04 or 07 names.
 use Rattle.std.specs.Prelude.{◌||◌, if◌then◌else◌}
-use Rattle.packing.specs.Prelude.{ℕ, Bool, true, false, Option, none, some, ◌=?◌, ◌<?◌}
+use Rattle.packing.specs.Prelude.{ℕ, Bool, true, false, Option, None, Some, ◌=?◌, ◌<?◌}
 use Rattle.packing.specs.Prelude.{Opening, Command, Shelve, Count, Withdraw, Switch, Reserve, Settle, ItemReason, SizeZero, RangeWrong}
 use Rattle.packing.specs.Bins.{Item, stored}
 
@@ -33,21 +33,21 @@ name_of (Settle named size) = named
 
 -- The least stored size of an item of 06, which is known within a range; one of 02 is settled from the start.
 abbrev pub least_of : Opening → Command → Option ℕ
-least_of o (Shelve size) = none
-least_of o Count = none
-least_of o (Withdraw named) = none
-least_of o (Switch r) = none
-least_of o (Reserve least greatest) = some (stored o least)
-least_of o (Settle named size) = none
+least_of o (Shelve size) = None
+least_of o Count = None
+least_of o (Withdraw named) = None
+least_of o (Switch r) = None
+least_of o (Reserve least greatest) = Some (stored o least)
+least_of o (Settle named size) = None
 
 -- Refusal 8 of command 02, which "goes by the bare size"; for command 06 "19, the bare least is 0 or above greatest, in place of 8".
 abbrev pub fault : Command → Option ItemReason
-fault (Shelve size) = if size =? 0 then some SizeZero else none
-fault Count = none
-fault (Withdraw named) = none
-fault (Switch r) = none
-fault (Reserve least greatest) = if (least =? 0) || (greatest <? least) then some RangeWrong else none
-fault (Settle named size) = none
+fault (Shelve size) = if size =? 0 then Some SizeZero else None
+fault Count = None
+fault (Withdraw named) = None
+fault (Switch r) = None
+fault (Reserve least greatest) = if (least =? 0) || (greatest <? least) then Some RangeWrong else None
+fault (Settle named size) = None
 
 -- An item as it is shelved by the command of this number, with this stored size, and the least that it can have if it is known within a range.
 abbrev pub item : (number size : ℕ) (least : Option ℕ) → Item

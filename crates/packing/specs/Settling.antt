@@ -1,13 +1,13 @@
 -- "Sizes known within a range" (document 02, point 9): command 07, which names an item of 06 by the number of that command and tells its size. The size is
 -- the stored one here, as those of the range are: "the trailer is added to each".
 use Rattle.std.specs.Prelude.{◌&&◌, if◌then◌else◌}
-use Rattle.packing.specs.Prelude.{ℕ, Bool, not, none, map, any, Opening, Outcome, Settled, Refused, NotReserved, OutsideRange}
+use Rattle.packing.specs.Prelude.{ℕ, Bool, not, None, map, any, Opening, Outcome, Settled, Refused, NotReserved, OutsideRange}
 use Rattle.packing.specs.Bins.{Item, Bin, Packing, free_on, holds, unsettled, in_range}
 use Rattle.packing.specs.Withdrawing.{is_named, bin_holding}
 
 -- An item with this size for good.
 abbrev pub settled_to : (size : ℕ) → Item → Item
-settled_to size i = record { command = i.command; size = size; greatest = i.greatest; least = none }
+settled_to size i = record { command = i.command; size = size; greatest = i.greatest; least = None }
 
 module _ (named : ℕ) where
   -- The item is "still shelved and unsettled".

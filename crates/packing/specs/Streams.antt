@@ -1,7 +1,7 @@
 -- "Command streams": a row of bytes is read as an opening and the commands after it, or refused.
 use Rattle.std.specs.Prelude.{◌+◌, ◌*◌, ◌≡◌, ◌||◌, ◌&&◌, ◌∷◌, if◌then◌else◌}
 use Rattle.packing.specs.Prelude.{ℕ, zero, suc, min, Bool, not, List, [], foldl, length, take, drop, get_or, ◌=?◌, ◌<?◌}
-use Rattle.packing.specs.Prelude.{Opening, Command, Shelve, Count, Withdraw, Switch, Reserve, Settle, WidthRow, Width, Known, Unknown}
+use Rattle.packing.specs.Prelude.{Opening, Command, Shelve, Count, Withdraw, Switch, Reserve, Settle, WidthRow, Option, None, Some}
 use Rattle.packing.specs.Prelude.{StreamReason, NoOpening, UnknownOpcode, CutShort, SecondOpening, OutsideLimits, TooManyCommands, TooFewWords, NoProduction}
 use Rattle.packing.specs.Limits.{opening_good, most_commands}
 use Rattle.packing.specs.Productions.{production_of}
@@ -38,9 +38,9 @@ widths =
     record { opcode = 0x11; width = opening_width 0x11 } ∷
     []
 
-unfoldable pub lookup : ℕ → List WidthRow → Width
-lookup b [] = Unknown
-lookup b (row ∷ rows) = if row.opcode =? b then Known row.width else lookup b rows
+unfoldable pub lookup : ℕ → List WidthRow → Option ℕ
+lookup b [] = None
+lookup b (row ∷ rows) = if row.opcode =? b then Some row.width else lookup b rows
 
 -- Operands are unsigned, most significant byte first: this one has so many bytes before it and is so wide.
 abbrev pub operand : (before width : ℕ) → List ℕ → ℕ
@@ -70,9 +70,9 @@ pub data Front : Type 0 where
   faulty : StreamReason → Front
 
 -- For byte b with s behind it the order is 2, 4, 3, 18.
-abbrev pub front : (b : ℕ) (s : List ℕ) → Width → Front
-front b s Unknown = faulty UnknownOpcode
-front b s (Known width) =
+abbrev pub front : (b : ℕ) (s : List ℕ) → Option ℕ → Front
+front b s None = faulty UnknownOpcode
+front b s (Some width) =
     if is_opening b then faulty SecondOpening else
     if length s <? width then faulty CutShort else
     if names_none b s then faulty NoProduction else

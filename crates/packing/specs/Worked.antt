@@ -1,8 +1,9 @@
 -- "Worked shelves": the cases marked ● make one table, proved together by one theorem that computes over it (../proofs/Worked.antt).
 use Rattle.std.specs.Prelude.{◌+◌, ◌*◌, ◌∷◌, ◌++◌}
 use Rattle.packing.specs.Prelude.{ℕ, Bool, true, false, List, [], map, flatten, take, drop, replicate, ◌≤?◌}
-use Rattle.packing.specs.Prelude.{Opening, SizeClass, A, B1, B2, X, First, Second, Command, Shelve, Count, Withdraw, Switch, Reserve, Settle, StreamResult, PlanResult, Overfull}
-use Rattle.packing.specs.Prelude.{CutShort, SecondOpening, TooFewWords, NoProduction, RowReason, RowResult}
+use Rattle.packing.specs.Prelude.{Opening, SizeClass, A, B1, B2, X, First, Second, Command, Shelve, Count, Withdraw, Switch, Reserve, Settle, Ok, Overfull}
+use Rattle.packing.specs.Prelude.{CutShort, SecondOpening, TooFewWords, NoProduction, RowReason}
+use Rattle.packing.specs.Refusing.{StreamResult, PlanResult, RowResult, refuse, pass}
 use Rattle.packing.specs.Refusals.{word, free_units}
 use Rattle.packing.specs.SizeClasses.{size_class}
 use Rattle.packing.specs.Looks.{height}
@@ -101,6 +102,10 @@ trailer258 = 0x11 ∷ 0 ∷ 0 ∷ 4 ∷ 0 ∷ 0 ∷ 4 ∷ 6 ∷ 1 ∷ 2 ∷ 0x02
 abbrev pub behind : List ℕ → List ℕ
 behind bytes = 0x01 ∷ 0 ∷ 0 ∷ 0 ∷ 60 ∷ 0 ∷ 4 ∷ 6 ∷ bytes
 
+-- The totals of an accepted stream.
+abbrev pub totalling : (items opened looks : ℕ) → StreamResult
+totalling items opened looks = Ok (record { items = items; opened = opened; looks = looks })
+
 -- What such a stream returns where as many words are lent as it can want.
 abbrev pub returns : (bytes : List ℕ) → Finding
 returns bytes = returned (result (verdict (behind bytes) 12))
@@ -112,11 +117,11 @@ table =
     classes (map (size_class 1) (1 ∷ [])) is classes (A ∷ []) ∷
     shelved 60 512 (replicate 6 22 ++ 38 ∷ []) is words (1 ∷ 1 ∷ 2 ∷ 2 ∷ 3 ∷ 4 ∷ 4 ∷ []) ∷
     shelved 60 512 (replicate 6 22 ++ 39 ∷ []) is words (1 ∷ 1 ∷ 2 ∷ 2 ∷ 3 ∷ 4 ∷ 5 ∷ []) ∷
-    planned 60 1 (30 ∷ 30 ∷ []) (1 ∷ 1 ∷ []) is checked PlanResult.Passed ∷
-    planned 60 1 (30 ∷ 31 ∷ []) (1 ∷ 1 ∷ []) is checked (PlanResult.Refused Overfull 2) ∷
-    planned 60 0 [] [] is checked PlanResult.Passed ∷
+    planned 60 1 (30 ∷ 30 ∷ []) (1 ∷ 1 ∷ []) is checked pass ∷
+    planned 60 1 (30 ∷ 31 ∷ []) (1 ∷ 1 ∷ []) is checked (refuse Overfull 2) ∷
+    planned 60 0 [] [] is checked pass ∷
     shelved 262144 512 theorem1 is words (1 ∷ 1 ∷ 1 ∷ 2 ∷ 2 ∷ 2 ∷ 3 ∷ 3 ∷ 3 ∷ 4 ∷ 4 ∷ 4 ∷ 5 ∷ 6 ∷ 7 ∷ 8 ∷ 9 ∷ 10 ∷ 11 ∷ 1 ∷ 12 ∷ []) ∷
-    planned 262144 7 theorem1 seven is checked PlanResult.Passed ∷
+    planned 262144 7 theorem1 seven is checked pass ∷
     figure (3 * number_opened (opening 262144 512) First (map Shelve theorem1)) is figure 36 ∷
     figure (5 * used (plan_of theorem1 seven) + 15) is figure 50 ∷
     holds (3 * number_opened (opening 262144 512) First (map Shelve theorem1) ≤? 5 * used (plan_of theorem1 seven) + 15) is holds true ∷
@@ -139,7 +144,7 @@ table =
     -- A stock that is spent stays so when its bin is emptied, which takes only items of its class.
     answered 1 (Shelve 60 ∷ Shelve 60 ∷ Withdraw 1 ∷ Shelve 20 ∷ Shelve 60 ∷ Count ∷ []) is words (1 ∷ 32_778 ∷ 1 ∷ 32_778 ∷ 1 ∷ 1 ∷ 0 ∷ 0 ∷ 60 ∷ 0 ∷ 0 ∷ 0 ∷ []) ∷
     -- Why the figure of demand 3 is for streams without withdrawals: the shelf's own plan uses one bin of seven, and passes.
-    checked (check 60 7 (shelf_plan (opening 60 512) First recalled) (shelved_sizes (opening 60 512) First recalled)) is checked PlanResult.Passed ∷
+    checked (check 60 7 (shelf_plan (opening 60 512) First recalled) (shelved_sizes (opening 60 512) First recalled)) is checked pass ∷
     figure (3 * number_opened (opening 60 512) First recalled) is figure 21 ∷
     figure (5 * used (shelf_plan (opening 60 512) First recalled) + 15) is figure 20 ∷
     holds (3 * number_opened (opening 60 512) First recalled ≤? 5 * used (shelf_plan (opening 60 512) First recalled) + 15) is holds false ∷
@@ -155,10 +160,10 @@ table =
     storing 16_777_216 65_535 (4_294_967_295 ∷ 16_711_682 ∷ 16_711_681 ∷ []) is words (32_777 ∷ 32_777 ∷ 1 ∷ 0 ∷ 0 ∷ 0 ∷ []) ∷
     -- The trailer is read behind m; a stream has one opening, of either kind, and 11 is longer than 01.
     words (row_at_exit free_units (verdict trailer258 1) (7 ∷ [])) is words (765 ∷ []) ∷
-    returned (result (verdict (take 9 trailer258) 1)) is returned (StreamResult.Refused CutShort 0) ∷
-    returned (result (verdict (sample ++ 0x11 ∷ []) 12)) is returned (StreamResult.Refused SecondOpening 54) ∷
-    returned (result (verdict (sample_trailed ++ 0x01 ∷ []) 12)) is returned (StreamResult.Refused SecondOpening 56) ∷
-    returned (result (verdict sample_trailed 9)) is returned (StreamResult.Refused TooFewWords 56) ∷
+    returned (result (verdict (take 9 trailer258) 1)) is returned (refuse CutShort 0) ∷
+    returned (result (verdict (sample ++ 0x11 ∷ []) 12)) is returned (refuse SecondOpening 54) ∷
+    returned (result (verdict (sample_trailed ++ 0x01 ∷ []) 12)) is returned (refuse SecondOpening 56) ∷
+    returned (result (verdict sample_trailed 9)) is returned (refuse TooFewWords 56) ∷
     words (row_at_exit word (verdict sample_trailed 12) (replicate 12 7)) is words (1 ∷ 2 ∷ 2 ∷ 3 ∷ 3 ∷ 4 ∷ 1 ∷ 32_778 ∷ 4 ∷ 4 ∷ 7 ∷ 7 ∷ []) ∷
     -- Two productions: a stream starts in 0, and each numbers its own bins from 1 and counts its own. 05 answers its byte, with no units, also where it
     -- names the production that is current.
@@ -178,8 +183,8 @@ table =
     answered 1 (Shelve 60 ∷ Withdraw 1 ∷ Switch Second ∷ Shelve 60 ∷ Switch First ∷ Shelve 60 ∷ [])
     is words (1 ∷ 1 ∷ 1 ∷ 32_778 ∷ 0 ∷ 1 ∷ 0 ∷ 60 ∷ 0 ∷ 0 ∷ 0 ∷ 0 ∷ []) ∷
     -- What is returned is of both: the items still shelved, and the bins opened.
-    returns (0x02 ∷ 0 ∷ 0 ∷ 0 ∷ 60 ∷ 0x05 ∷ 1 ∷ 0x02 ∷ 0 ∷ 0 ∷ 0 ∷ 20 ∷ 0x02 ∷ 0 ∷ 0 ∷ 0 ∷ 20 ∷ 0x02 ∷ 0 ∷ 0 ∷ 0 ∷ 60 ∷ []) is returned (StreamResult.Accepted 4 3 3) ∷
-    returns (0x02 ∷ 0 ∷ 0 ∷ 0 ∷ 60 ∷ 0x05 ∷ 1 ∷ 0x02 ∷ 0 ∷ 0 ∷ 0 ∷ 20 ∷ 0x04 ∷ 0 ∷ 3 ∷ []) is returned (StreamResult.Accepted 1 2 1) ∷
+    returns (0x02 ∷ 0 ∷ 0 ∷ 0 ∷ 60 ∷ 0x05 ∷ 1 ∷ 0x02 ∷ 0 ∷ 0 ∷ 0 ∷ 20 ∷ 0x02 ∷ 0 ∷ 0 ∷ 0 ∷ 20 ∷ 0x02 ∷ 0 ∷ 0 ∷ 0 ∷ 60 ∷ []) is returned (totalling 4 3 3) ∷
+    returns (0x02 ∷ 0 ∷ 0 ∷ 0 ∷ 60 ∷ 0x05 ∷ 1 ∷ 0x02 ∷ 0 ∷ 0 ∷ 0 ∷ 20 ∷ 0x04 ∷ 0 ∷ 3 ∷ []) is returned (totalling 1 2 1) ∷
     -- Looks: 2 to the power h is at least the stock.
     words (map height (1 ∷ 2 ∷ 3 ∷ 4 ∷ 5 ∷ 8 ∷ 9 ∷ 256 ∷ 257 ∷ 511 ∷ 512 ∷ [])) is words (0 ∷ 1 ∷ 2 ∷ 2 ∷ 3 ∷ 3 ∷ 4 ∷ 8 ∷ 9 ∷ 9 ∷ 9 ∷ []) ∷
     -- None for what is refused before 10, a count, a withdrawal and a switch; 1 where a new bin is called for, whether there is one or not; 1 + h where an
@@ -188,15 +193,15 @@ table =
     looked 4 (map Shelve (60 ∷ 60 ∷ 60 ∷ []) ++ Switch Second ∷ map Shelve (60 ∷ 60 ∷ 20 ∷ []) ++ Withdraw 5 ∷ Shelve 40 ∷ []) is words (1 ∷ 1 ∷ 1 ∷ 0 ∷ 1 ∷ 1 ∷ 1 ∷ 0 ∷ 3 ∷ []) ∷
     looked 1 (map Shelve (60 ∷ 60 ∷ []) ++ Withdraw 1 ∷ Shelve 60 ∷ []) is words (1 ∷ 1 ∷ 0 ∷ 1 ∷ []) ∷
     -- The largest is returned, not the last and not the sum; 0 where there was no search.
-    returns (0x02 ∷ 0 ∷ 0 ∷ 0 ∷ 20 ∷ 0x02 ∷ 0 ∷ 0 ∷ 0 ∷ 20 ∷ 0x02 ∷ 0 ∷ 0 ∷ 0 ∷ 60 ∷ 0x03 ∷ []) is returned (StreamResult.Accepted 3 2 3) ∷
-    returns (0x02 ∷ 0 ∷ 0 ∷ 0 ∷ 61 ∷ 0x03 ∷ 0x04 ∷ 0 ∷ 1 ∷ []) is returned (StreamResult.Accepted 0 0 0) ∷
+    returns (0x02 ∷ 0 ∷ 0 ∷ 0 ∷ 20 ∷ 0x02 ∷ 0 ∷ 0 ∷ 0 ∷ 20 ∷ 0x02 ∷ 0 ∷ 0 ∷ 0 ∷ 60 ∷ 0x03 ∷ []) is returned (totalling 3 2 3) ∷
+    returns (0x02 ∷ 0 ∷ 0 ∷ 0 ∷ 61 ∷ 0x03 ∷ 0x04 ∷ 0 ∷ 1 ∷ []) is returned (totalling 0 0 0) ∷
     -- 05 takes the bytes 0 and 1, and a byte above is refusal 18 where the command stands, whatever good ones came before it.
     words (row_at_exit word (verdict (behind (0x05 ∷ 1 ∷ 0x05 ∷ 0 ∷ [])) 2) (7 ∷ 7 ∷ [])) is words (1 ∷ 0 ∷ []) ∷
-    returns (0x05 ∷ 2 ∷ []) is returned (StreamResult.Refused NoProduction 8) ∷
-    returns (0x02 ∷ 0 ∷ 0 ∷ 0 ∷ 60 ∷ 0x05 ∷ 1 ∷ 0x05 ∷ 255 ∷ []) is returned (StreamResult.Refused NoProduction 15) ∷
+    returns (0x05 ∷ 2 ∷ []) is returned (refuse NoProduction 8) ∷
+    returns (0x02 ∷ 0 ∷ 0 ∷ 0 ∷ 60 ∷ 0x05 ∷ 1 ∷ 0x05 ∷ 255 ∷ []) is returned (refuse NoProduction 15) ∷
     -- It comes after 3, and before 7.
-    returns (0x05 ∷ []) is returned (StreamResult.Refused CutShort 8) ∷
-    returned (result (verdict (behind (0x05 ∷ 2 ∷ [])) 0)) is returned (StreamResult.Refused NoProduction 8) ∷
+    returns (0x05 ∷ []) is returned (refuse CutShort 8) ∷
+    returned (result (verdict (behind (0x05 ∷ 2 ∷ [])) 0)) is returned (refuse NoProduction 8) ∷
     -- Sizes within a range: 06 goes by the greatest, and 19 comes before 9; 21 one unit below the range and one above it; 20 for one already settled, an
     -- 02, 0, itself, a later one and a refused 06. An A joins the bin of a settled A.
     answered 8 (Reserve 10 40 ∷ Reserve 0 5 ∷ Reserve 6 5 ∷ Reserve 1 61 ∷ Reserve 0 61 ∷ map (Settle 1) (9 ∷ 41 ∷ 10 ∷ 10 ∷ []) ++ Shelve 35 ∷ Settle 10 35 ∷ map (λ n. Settle n 1) (0 ∷ 13 ∷ 15 ∷ 2 ∷ []))
@@ -218,31 +223,31 @@ table =
     words (accepted_sizes (opening 60 8) First (Reserve 10 40 ∷ Shelve 20 ∷ Reserve 5 30 ∷ Settle 1 12 ∷ [])) is words (40 ∷ 20 ∷ 30 ∷ []) ∷
     -- Why the figure of demand 3 is for streams without settlings too: a plan of what is settled uses one bin of seven, and passes.
     words (shelved_sizes (opening 60 512) First measured) is words (replicate 7 1) ∷
-    planned 60 1 (replicate 7 1) (replicate 7 1) is checked PlanResult.Passed ∷
+    planned 60 1 (replicate 7 1) (replicate 7 1) is checked pass ∷
     figure (3 * number_opened (opening 60 512) First measured) is figure 21 ∷
     -- 06 is searched for as 02 is, and 07 is not.
     looked 4 (Reserve 0 5 ∷ Reserve 1 61 ∷ Reserve 1 31 ∷ Settle 3 1 ∷ Reserve 1 31 ∷ []) is words (0 ∷ 0 ∷ 1 ∷ 0 ∷ 3 ∷ []) ∷
     -- The operands of 06 and 07, and where they are cut short.
     words (row_at_exit free_units (verdict (behind (0x06 ∷ 0 ∷ 0 ∷ 0 ∷ 5 ∷ 0 ∷ 0 ∷ 0 ∷ 31 ∷ 0x07 ∷ 0 ∷ 1 ∷ 0 ∷ 0 ∷ 0 ∷ 6 ∷ [])) 2) (7 ∷ 7 ∷ [])) is words (29 ∷ 54 ∷ []) ∷
-    returns (0x06 ∷ 0 ∷ 0 ∷ 0 ∷ 5 ∷ 0 ∷ 0 ∷ 0 ∷ []) is returned (StreamResult.Refused CutShort 8) ∷
-    returns (0x06 ∷ 0 ∷ 0 ∷ 0 ∷ 5 ∷ 0 ∷ 0 ∷ 0 ∷ 31 ∷ 0x07 ∷ 0 ∷ 1 ∷ 0 ∷ 0 ∷ 0 ∷ []) is returned (StreamResult.Refused CutShort 17) ∷
-    returns (0x06 ∷ 0 ∷ 0 ∷ 0 ∷ 5 ∷ 0 ∷ 0 ∷ 0 ∷ 31 ∷ 0x07 ∷ 0 ∷ 1 ∷ 0 ∷ 0 ∷ 0 ∷ 6 ∷ []) is returned (StreamResult.Accepted 1 1 1) ∷
+    returns (0x06 ∷ 0 ∷ 0 ∷ 0 ∷ 5 ∷ 0 ∷ 0 ∷ 0 ∷ []) is returned (refuse CutShort 8) ∷
+    returns (0x06 ∷ 0 ∷ 0 ∷ 0 ∷ 5 ∷ 0 ∷ 0 ∷ 0 ∷ 31 ∷ 0x07 ∷ 0 ∷ 1 ∷ 0 ∷ 0 ∷ 0 ∷ []) is returned (refuse CutShort 17) ∷
+    returns (0x06 ∷ 0 ∷ 0 ∷ 0 ∷ 5 ∷ 0 ∷ 0 ∷ 0 ∷ 31 ∷ 0x07 ∷ 0 ∷ 1 ∷ 0 ∷ 0 ∷ 0 ∷ 6 ∷ []) is returned (totalling 1 1 1) ∷
     -- A row of sizes: of all faults at once 11 comes first, then 12, 13 with the place of the first bad size, and 22.
-    row (check_row 0 0 (replicate 4_097 0)) is row (RowResult.Refused RowReason.CapacityOutside 0) ∷
-    row (check_row 60 0 (replicate 4_097 0)) is row (RowResult.Refused RowReason.TooLong 0) ∷
-    row (check_row 60 0 (60 ∷ 61 ∷ 0 ∷ [])) is row (RowResult.Refused RowReason.SizeOutside 2) ∷
-    row (check_row 60 2 (60 ∷ 1 ∷ 60 ∷ [])) is row (RowResult.Refused RowReason.TooFewWords 0) ∷
-    row (check_row 60 3 (60 ∷ 1 ∷ 60 ∷ [])) is row RowResult.Sound ∷
+    row (check_row 0 0 (replicate 4_097 0)) is row (refuse RowReason.CapacityOutside 0) ∷
+    row (check_row 60 0 (replicate 4_097 0)) is row (refuse RowReason.TooLong 0) ∷
+    row (check_row 60 0 (60 ∷ 61 ∷ 0 ∷ [])) is row (refuse RowReason.SizeOutside 2) ∷
+    row (check_row 60 2 (60 ∷ 1 ∷ 60 ∷ [])) is row (refuse RowReason.TooFewWords 0) ∷
+    row (check_row 60 3 (60 ∷ 1 ∷ 60 ∷ [])) is row pass ∷
     -- Two rows to pair, of which either may be too long: 13 of the pictures, then of the sounds, whose places count on; 22 by the pictures alone.
-    row (check_pair 0 0 [] (replicate 4_097 0)) is row (RowResult.Refused RowReason.CapacityOutside 0) ∷
-    row (check_pair 60 0 (replicate 4_097 0) []) is row (RowResult.Refused RowReason.TooLong 0) ∷
-    row (check_pair 60 0 (61 ∷ []) (replicate 4_097 0)) is row (RowResult.Refused RowReason.TooLong 0) ∷
-    row (check_pair 60 0 (1 ∷ 61 ∷ []) (0 ∷ [])) is row (RowResult.Refused RowReason.SizeOutside 2) ∷
-    row (check_pair 60 0 (1 ∷ 60 ∷ []) (60 ∷ 61 ∷ [])) is row (RowResult.Refused RowReason.SizeOutside 4) ∷
-    row (check_pair 60 1 (1 ∷ 60 ∷ []) (60 ∷ [])) is row (RowResult.Refused RowReason.TooFewWords 0) ∷
-    row (check_pair 60 1 (1 ∷ []) (60 ∷ 60 ∷ [])) is row RowResult.Sound ∷
+    row (check_pair 0 0 [] (replicate 4_097 0)) is row (refuse RowReason.CapacityOutside 0) ∷
+    row (check_pair 60 0 (replicate 4_097 0) []) is row (refuse RowReason.TooLong 0) ∷
+    row (check_pair 60 0 (61 ∷ []) (replicate 4_097 0)) is row (refuse RowReason.TooLong 0) ∷
+    row (check_pair 60 0 (1 ∷ 61 ∷ []) (0 ∷ [])) is row (refuse RowReason.SizeOutside 2) ∷
+    row (check_pair 60 0 (1 ∷ 60 ∷ []) (60 ∷ 61 ∷ [])) is row (refuse RowReason.SizeOutside 4) ∷
+    row (check_pair 60 1 (1 ∷ 60 ∷ []) (60 ∷ [])) is row (refuse RowReason.TooFewWords 0) ∷
+    row (check_pair 60 1 (1 ∷ []) (60 ∷ 60 ∷ [])) is row pass ∷
     -- The sample stream, with two words more in each row than it has commands.
-    returned (result (verdict sample 12)) is returned (StreamResult.Accepted 8 4 3) ∷
+    returned (result (verdict sample 12)) is returned (totalling 8 4 3) ∷
     words (row_at_exit word (verdict sample 12) (replicate 12 7)) is words (1 ∷ 2 ∷ 2 ∷ 3 ∷ 3 ∷ 4 ∷ 1 ∷ 32_778 ∷ 4 ∷ 4 ∷ 7 ∷ 7 ∷ []) ∷
     words (row_at_exit free_units (verdict sample 12) (replicate 12 7)) is words (25 ∷ 38 ∷ 16 ∷ 38 ∷ 16 ∷ 38 ∷ 3 ∷ 0 ∷ 0 ∷ 16 ∷ 7 ∷ 7 ∷ []) ∷
     []

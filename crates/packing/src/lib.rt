@@ -1,7 +1,10 @@
 // The types that the code shares with its definitions: size classes, operands, commands, answers and refusals of document 01. The packing of
-// document 01 is its shelf, a bin its cartridge, an item its master. Each enum of refusals has one definition that gives document 01's
-// numbers (specs/Refusals.antt).
+// document 01 is its shelf, a bin its cartridge, an item its master. The numbers of the refusals are document 01's (specs/Refusals.antt).
 #![tactic(auto)]
+
+mod refusals;
+
+pub use refusals::{item_reason, production_of};
 
 // "Size classes": A above a half of the capacity, B1 above two fifths, B2 above a third, X the rest.
 #[derive(Clone, Copy)]
@@ -31,10 +34,10 @@ pub struct Opening {
 }
 
 // The two productions, which draw on one stock: number 0, in which a stream starts, and number 1.
-#[derive(Clone, Copy)]
+#[derive(Clone, Copy, PartialEq, Eq)]
 pub enum Production {
-    First,
-    Second,
+    First = 0,
+    Second = 1,
 }
 
 // A command after the opening: 02, shelve an item of this bare size; 03, how many bins are opened; 04, take out the item that the command of this
@@ -57,23 +60,16 @@ pub struct WidthRow {
     pub width: usize,
 }
 
-// The operand width of a byte, if it is in the table.
-#[derive(Clone, Copy)]
-pub enum Width {
-    Known(usize),
-    Unknown,
-}
-
 // Why an item is refused: 8 or in its place 19, 9, 10; why none is taken out: 17; and why none is settled: 20, 21.
 #[derive(Clone, Copy)]
 pub enum ItemReason {
-    SizeZero,
-    AboveCapacity,
-    StockSpent,
-    NotShelved,
-    RangeWrong,
-    NotReserved,
-    OutsideRange,
+    SizeZero = 8,
+    AboveCapacity = 9,
+    StockSpent = 10,
+    NotShelved = 17,
+    RangeWrong = 19,
+    NotReserved = 20,
+    OutsideRange = 21,
 }
 
 // What a command comes to: the bin of its item and the units that the item leaves free there, the number of bins opened, the bin that the item named
@@ -106,29 +102,33 @@ pub struct Tally {
 // Why a whole stream is refused: 1 to 7, and 18.
 #[derive(Clone, Copy)]
 pub enum StreamReason {
-    NoOpening,
-    UnknownOpcode,
-    CutShort,
-    SecondOpening,
-    OutsideLimits,
-    TooManyCommands,
-    TooFewWords,
-    NoProduction,
+    NoOpening = 1,
+    UnknownOpcode = 2,
+    CutShort = 3,
+    SecondOpening = 4,
+    OutsideLimits = 5,
+    TooManyCommands = 6,
+    TooFewWords = 7,
+    NoProduction = 18,
 }
 
-// What the stream call returns: items still shelved and bins opened, of both productions, and the largest looks of a command; or a refusal.
+// A refusal: its reason, and where it is, which is a stream's offset or the place of an entry or a size.
 #[derive(Clone, Copy)]
-pub enum StreamResult {
-    Accepted {
-        items: usize,
-        opened: usize,
-        looks: usize,
-    },
-    Refused {
-        reason: StreamReason,
-        offset: usize,
-    },
+pub struct Refusal<R> {
+    pub reason: R,
+    pub place: usize,
 }
+
+// What an accepted stream comes to: items still shelved and bins opened, of both productions, and the largest looks of a command.
+#[derive(Clone, Copy)]
+pub struct StreamTotals {
+    pub items: usize,
+    pub opened: usize,
+    pub looks: usize,
+}
+
+// What the stream call returns.
+pub type StreamResult = Result<StreamTotals, Refusal<StreamReason>>;
 
 // An entry of a plan: an item's size and its bin's number.
 #[derive(Clone, Copy)]
@@ -140,47 +140,38 @@ pub struct Entry {
 // Why a plan is refused: 11 to 16.
 #[derive(Clone, Copy)]
 pub enum PlanReason {
-    CapacityOutside,
-    TooLong,
-    SizeOutside,
-    BinOutside,
-    Overfull,
-    OtherItems,
+    CapacityOutside = 11,
+    TooLong = 12,
+    SizeOutside = 13,
+    BinOutside = 14,
+    Overfull = 15,
+    OtherItems = 16,
 }
 
 // What the plan checker returns.
-#[derive(Clone, Copy)]
-pub enum PlanResult {
-    Passed,
-    Refused { reason: PlanReason, place: usize },
-}
+pub type PlanResult = Result<(), Refusal<PlanReason>>;
 
 // Why a call over a row of sizes is refused: 11 to 13, as a plan is, and 22.
 #[derive(Clone, Copy)]
 pub enum RowReason {
-    CapacityOutside,
-    TooLong,
-    SizeOutside,
-    TooFewWords,
+    CapacityOutside = 11,
+    TooLong = 12,
+    SizeOutside = 13,
+    TooFewWords = 22,
 }
 
 // What the checks of such a call come to.
+pub type RowResult = Result<(), Refusal<RowReason>>;
+
+// What a repacking comes to: the bins that it takes, and whether the move saves nothing.
 #[derive(Clone, Copy)]
-pub enum RowResult {
-    Sound,
-    Refused { reason: RowReason, place: usize },
+pub struct Repacked {
+    pub count: usize,
+    pub saves_nothing: bool,
 }
 
-// What a repacking returns: the bins that it takes, and whether the move saves nothing; or a refusal.
-#[derive(Clone, Copy)]
-pub enum RepackResult {
-    Repacked { count: usize, saves_nothing: bool },
-    Refused { reason: RowReason, place: usize },
-}
+// What a repacking returns.
+pub type RepackResult = Result<Repacked, Refusal<RowReason>>;
 
-// What a pairing of two rows returns: the number of pairs; or a refusal.
-#[derive(Clone, Copy)]
-pub enum PairResult {
-    Paired(usize),
-    Refused { reason: RowReason, place: usize },
-}
+// What a pairing of two rows returns: the number of pairs.
+pub type PairResult = Result<usize, Refusal<RowReason>>;

@@ -1,2 +1,2 @@
--- What the walk over the entries rests on.
-pub mod Ends
+-- What a numbered walk over the entries and their items has yielded.
+pub mod Numbered

@@ -3,38 +3,25 @@
 // answers of all cases are the file stdout, which the gate compares.
 #![tactic(auto)]
 
-use packing::{Entry, PlanResult};
-use plan::{HELD, HeldPlan};
-use std::io;
+use limits::MOST_ROWS;
+use packing::{Entry, PlanResult, Refusal};
+use std::{fmt, io};
 
-fn show(rt: &impl Print, answer: PlanResult) -> io::Result<()> {
-    match answer {
-        PlanResult::Passed => print!(rt; "passed"),
-        PlanResult::Refused { reason, place } => {
-            let number = refusals::plan_number(reason);
-            print!(rt; "{number} at {place}")
+// An answer as it is shown.
+#[derive(Clone, Copy)]
+struct Shown(PlanResult);
+
+impl fmt::Display for Shown {
+    fn fmt<W: fmt::Write>(&self, f: &mut fmt::Formatter<W>) -> fmt::Result {
+        match self.0 {
+            Ok(()) => write!(f, "passed"),
+            Err(Refusal { reason, place }) => write!(f, "{} at {place}", u16::from(reason)),
         }
     }
 }
 
-// The two rows as entries, as many as they both have and a plan by value can hold.
-fn held(sizes: &[u32], bins: &[u32]) -> HeldPlan {
-    let mut entries = [Entry { size: 0, bin: 0 }; HELD];
-    let mut i: usize = 0;
-    while i < HELD {
-        if sizes.len() <= i {
-            break;
-        }
-        if bins.len() <= i {
-            break;
-        }
-        let size = sizes[i];
-        let bin = bins[i];
-        entries[i] = Entry { size, bin };
-        i += 1;
-    }
-    HeldPlan { entries, len: i }
-}
+// One place more than a plan may have rows, so that refusal 12 can occur.
+const HELD: usize = MOST_ROWS + 1;
 
 fn both(
     rt: &impl Print,
@@ -45,12 +32,18 @@ fn both(
     k: u32,
 ) -> io::Result<()> {
     let of_rows = plan_rows::check_rows(sizes, bins, items, capacity, k);
-    show(rt, of_rows)?;
-    print!(rt; ", ")?;
-    let entries = held(sizes, bins);
-    let of_entries = plan::check_held_plan(entries, items, capacity, k);
-    show(rt, of_entries)?;
-    println!(rt)
+    // The two rows as entries, as many as they both have and there are places for.
+    let mut entries = [Entry { size: 0, bin: 0 }; HELD];
+    let rows = sizes.iter().zip(bins);
+    for (entry, (size, bin)) in entries.iter_mut().zip(rows) {
+        *entry = Entry {
+            size: *size,
+            bin: *bin,
+        };
+    }
+    let held = sizes.len().min(bins.len()).min(HELD);
+    let of_entries = plan::check_plan(&entries[..held], items, capacity, k);
+    println!(rt; "{}, {}", Shown(of_rows), Shown(of_entries))
 }
 
 // The sizes of the list after Yao's Theorem 1, and the cartridges of a plan of it with k 7.

@@ -6,23 +6,14 @@ ghost use Rattle.std.specs.Prelude.{◌≡◌, [], ◌∷◌};
 ghost use Rattle.packing.specs.Plans.{lengths_good, limits};
 
 use limits::{MOST_CAPACITY, MOST_ROWS};
-use packing::{PlanReason, PlanResult};
+use packing::{PlanReason, PlanResult, Refusal};
 
 // What 12 asks: neither k nor a length is above the most.
 #[tactic(auto, unfolding(packing::specs::Prelude::any))]
 fn lengths_good(k: usize, rows: usize, items: usize) -> bool
     ensures { result ≡ lengths_good (k ∷ rows ∷ items ∷ []) }
 {
-    if MOST_ROWS < k {
-        return false;
-    }
-    if MOST_ROWS < rows {
-        return false;
-    }
-    if MOST_ROWS < items {
-        return false;
-    }
-    true
+    k <= MOST_ROWS && rows <= MOST_ROWS && items <= MOST_ROWS
 }
 
 // 11, 12, 16; passed where none of them refuses.
@@ -30,27 +21,23 @@ fn lengths_good(k: usize, rows: usize, items: usize) -> bool
 pub fn check_limits(capacity: u32, k: u32, rows: usize, items: usize) -> PlanResult
     ensures { result ≡ limits capacity k rows items }
 {
-    let capacity_good = limits::is_within(1, MOST_CAPACITY, capacity);
-    let short = lengths_good(k as usize, rows, items);
-    if !capacity_good {
-        return PlanResult::Refused {
+    if !limits::is_within(1, MOST_CAPACITY, capacity) {
+        return Err(Refusal {
             reason: PlanReason::CapacityOutside,
             place: 0,
-        };
+        });
     }
-    if !short {
-        return PlanResult::Refused {
+    if !lengths_good(k as usize, rows, items) {
+        return Err(Refusal {
             reason: PlanReason::TooLong,
             place: 0,
-        };
+        });
     }
-    if rows == items {
-        return PlanResult::Passed;
+    if rows != items {
+        return Err(Refusal {
+            reason: PlanReason::OtherItems,
+            place: rows.min(items) + 1,
+        });
     }
-    let least = limits::shorter(rows, items);
-    let place = least + 1;
-    PlanResult::Refused {
-        reason: PlanReason::OtherItems,
-        place,
-    }
+    Ok(())
 }

@@ -1,6 +1,6 @@
 -- What the step at one entry leaves, at a fault and at none: the loads at exit stand for one entry more only where it is sound.
 use mathlib.Core.Path.{◌≡◌, refl, sym, ap, ◌∙◌}
-use mathlib.Core.Option.{some, none}
+use Rattle.std.specs.Prelude.{Some, None}
 use mathlib.Core.List.{List, ◌∷◌}
 use Prim.Native.Nat.{ℕ, ◌+◌, ◌≤◌, ◌<◌}
 use native.Mathlib.Decide.{ℕ_discrete}
@@ -9,8 +9,8 @@ use borrow.Author.Tests.{eq-eqb, ne_eqb}
 use lib.ListN.{length, get_or, set, length-set}
 use lib.Seq.{get_or-set_same, get_or-set_other}
 use Rattle.packing.proofs.Tests.{clash}
-use Rattle.packing.specs.declared.{Entry.Entry, PlanReason.PlanReason, PlanResult.PlanResult}
-use Rattle.packing.specs.Prelude.{total}
+use Rattle.packing.specs.declared.{Entry.Entry, PlanReason.PlanReason}
+use Rattle.packing.specs.Prelude.{total, Ok, Err}
 use Rattle.packing.specs.Limits.{most_rows}
 use Rattle.packing.specs.Plans.{on_bin, fault}
 use Rattle.plan_rows.specs.Loads.{LoadsKept, LoadsOf, finding, Checked}
@@ -29,14 +29,14 @@ pub summed : (loads : List ℕ) (e : Entry) → e.bin ≤ most_rows → (before 
     → on_bin e.bin (e ∷ before) ≡ get_or loads e.bin 0 + e.size
 summed loads e low before r = omega (arith, on_own e before, r e.bin low)
 
-module _ (capacity k : ℕ) (loads : List ℕ) (e : Entry) (items : List ℕ) (i : ℕ) (kept : LoadsKept capacity k loads) where
-  pub faulty : (reason : PlanReason) → ((before : List Entry) → LoadsOf loads before → fault capacity k before e (get_or items i 0) ≡ some reason)
-      → Checked capacity k loads e items i (PlanResult.Refused reason (i + 1)) loads
+module _ (capacity k : ℕ) (loads : List ℕ) (e : Entry) (item : ℕ) (kept : LoadsKept capacity k loads) where
+  pub faulty : (reason : PlanReason) → ((before : List Entry) → LoadsOf loads before → fault capacity k before e item ≡ Some reason)
+      → Checked capacity k loads e item (Err reason) loads
   faulty reason f = record {
     kept = kept;
-    answered = λ before r. sym (ap (finding i) (f before r));
+    answered = λ before r. sym (ap finding (f before r));
     added = λ q. clash (cc);
-    refused = λ other place q. refl;
+    refused = λ other q. refl;
   }
 
   module _ (low : e.bin ≤ most_rows) (fits : get_or loads e.bin 0 + e.size ≤ capacity) where
@@ -61,8 +61,8 @@ module _ (capacity k : ℕ) (loads : List ℕ) (e : Entry) (items : List ℕ) (i
       | no q ↦ get_or-set_other loads e.bin n sum 0 q ∙ r n l ∙ sym (on_other n e before (λ p. q (sym p)))
     ]
 
-    pub sound : ((before : List Entry) → LoadsOf loads before → fault capacity k before e (get_or items i 0) ≡ none)
-        → Checked capacity k loads e items i PlanResult.Passed exit
+    pub sound : ((before : List Entry) → LoadsOf loads before → fault capacity k before e item ≡ None)
+        → Checked capacity k loads e item (Ok tt) exit
     sound f = record {
       kept = record {
         capacity_most = kept.capacity_most;
@@ -70,7 +70,7 @@ module _ (capacity k : ℕ) (loads : List ℕ) (e : Entry) (items : List ℕ) (i
         places = length-set loads e.bin sum ∙ kept.places;
         not_overfull = none_over;
       };
-      answered = λ before r. sym (ap (finding i) (f before r));
+      answered = λ before r. sym (ap finding (f before r));
       added = λ q. stands;
-      refused = λ reason place q. clash (cc);
+      refused = λ reason q. clash (cc);
     }

@@ -7,7 +7,8 @@ use native.Mathlib.Numerals.{add-one}
 use native.Mathlib.Omega.{arith}
 use lib.ListN.{length, drop, get_or}
 use lib.Seq.{drop-cons, drop-length}
-use Rattle.packing.specs.declared.{RowReason.RowReason, RowResult.RowResult}
+use Rattle.packing.specs.declared.{RowReason.RowReason}
+use Rattle.packing.specs.Refusing.{RowResult, refuse, pass}
 use Rattle.packing.specs.Limits.{within}
 use Rattle.packing.specs.Rows.{check_sizes}
 
@@ -15,15 +16,12 @@ abbrev pub rest : (c first i : ℕ) (sizes : List ℕ) → RowResult
 rest c first i sizes = check_sizes c (first + i) (drop i sizes)
 
 module _ (c first : ℕ) (sizes : List ℕ) where
-  pub from_start : check_sizes c first sizes ≡ rest c first 0 sizes
-  from_start = let z : first + 0 ≡ first = omega arith in rw z
-
-  pub at_end : (i : ℕ) → i ≡ length sizes → rest c first i sizes ≡ RowResult.Sound
+  pub at_end : (i : ℕ) → i ≡ length sizes → rest c first i sizes ≡ pass
   unfolding check_sizes
   at_end i e = rw (e, drop-length sizes)
 
   module _ (i : ℕ) (h : i < length sizes) where
-    pub bad_here : within 1 c (get_or sizes i 0) ≡ false → rest c first i sizes ≡ RowResult.Refused RowReason.SizeOutside (first + i)
+    pub bad_here : within 1 c (get_or sizes i 0) ≡ false → rest c first i sizes ≡ refuse RowReason.SizeOutside (first + i)
     unfolding check_sizes
     bad_here e = rw (drop-cons sizes i 0 h, e)
 

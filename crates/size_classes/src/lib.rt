@@ -19,14 +19,10 @@ fn above(limit: u32, size: u32, one: usize, other: usize) -> usize
 pub fn classify(size: u32, capacity: u32, numbers: PerClass) -> usize
     ensures { result ≡ number_of numbers (size_class capacity size) }
 {
-    let a = numbers.a;
-    let b1 = numbers.b1;
-    let b2 = numbers.b2;
-    let x = numbers.x;
     let half = capacity / 2;
     let fifths = 2 * (capacity / 5) + 2 * (capacity % 5) / 5;
     let third = capacity / 3;
-    let large = above(half, size, a, b1);
-    let middle = above(fifths, size, large, b2);
-    above(third, size, middle, x)
+    let large = above(half, size, numbers.a, numbers.b1);
+    let middle = above(fifths, size, large, numbers.b2);
+    above(third, size, middle, numbers.x)
 }

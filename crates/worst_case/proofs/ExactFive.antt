@@ -7,10 +7,11 @@ use mathlib.Core.List.{List, [], ◌∷◌, map, zip_with, flatten}
 use native.Mathlib.Omega.{arith}
 use native.Mathlib.Nat.{mod-eq_of_lt}
 use lib.Dec.{eqb}
-use Rattle.packing.specs.declared.{Opening.Opening, Command.Command, Entry.Entry, PlanResult.PlanResult}
+use Rattle.packing.specs.declared.{Opening.Opening, Command.Command, Entry.Entry}
 use Rattle.packing.specs.declared.Production.TheVariants.{First}
 use Rattle.packing.specs.declared.Command.TheVariants.{Shelve}
 use Rattle.packing.specs.Prelude.{total, greatest, any}
+use Rattle.packing.specs.Refusing.{pass}
 use Rattle.packing.specs.Limits.{m_good, opening_good}
 use Rattle.packing.specs.SizeClasses.{size_class}
 use Rattle.packing.specs.Placing.{first_fit, put, decision, placed}
@@ -39,7 +40,7 @@ plan = plan_of sizes (1 ∷ 1 ∷ 2 ∷ 2 ∷ 2 ∷ [])
 
 record Met (m : ℕ) : Type 0 where
   good : opening_good (opening m) ≡ true
-  passes : check 11 2 plan (accepted_sizes (opening m) First cs) ≡ PlanResult.Passed
+  passes : check 11 2 plan (accepted_sizes (opening m) First cs) ≡ pass
   none : none_altered (opening m) First cs ≡ true
   equal : 3 * number_opened (opening m) First cs ≡ 5 * used plan + 5
 

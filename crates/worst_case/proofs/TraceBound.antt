@@ -6,8 +6,9 @@ use mathlib.Core.Path.{◌≡◌, sym, ap, ◌∙◌}
 use mathlib.Core.Bool.{true, false}
 use mathlib.Core.List.{List, [], map, map-map}
 use native.Mathlib.Omega.{arith}
-use Rattle.packing.specs.declared.{Opening.Opening, Entry.Entry, PlanResult.PlanResult}
+use Rattle.packing.specs.declared.{Opening.Opening, Entry.Entry}
 use Rattle.packing.specs.Prelude.{total, greatest, any}
+use Rattle.packing.specs.Refusing.{pass}
 use Rattle.packing.specs.Limits.{opening_good}
 use Rattle.packing.specs.Bins.{Packing, empty}
 use Rattle.packing.specs.Run.{Step, entry_of, shelved_by, entries_of}
@@ -37,7 +38,7 @@ module _ (o : Opening) {e : ℕ} {q : Packing} {ts : List Step} (r : Trace o 1 e
       (trace_lying o r).weighs (of_size w) ∙ ap total (sym (map-map (λ e. w e.size) entry_of (shelved_by o ts [])))
       ∙ ap (λ es. total (map (λ e. w e.size) es)) (entries_shelved o ts [] none) ∙ total_weigh (λ e. e.size) w (entries_of o ts)
 
-  module _ (k : ℕ) (plan : List Entry) (ok : check o.capacity k plan sizes ≡ PlanResult.Passed) where
+  module _ (k : ℕ) (plan : List Entry) (ok : check o.capacity k plan sizes ≡ pass) where
     weighed_plan : (w : ℕ → ℕ) (most : ℕ) → MostInABin w o.capacity most → weigh w sizes ≤ most * used plan
     weighed_plan w = weighing w o.capacity k plan sizes ok
 

@@ -6,9 +6,10 @@ use mathlib.Core.List.{List, [], ◌∷◌, Memᴰ}
 use native.Mathlib.Omega.{arith}
 use borrow.Author.Tests.{eqb-true, eqb-false}
 use lib.Dec.{eqb}
-use Rattle.packing.specs.declared.{Entry.Entry, PlanResult.PlanResult}
+use Rattle.packing.specs.declared.{Entry.Entry}
 use Rattle.std.specs.Prelude.{if◌then◌else◌}
 use Rattle.packing.specs.Prelude.{any}
+use Rattle.packing.specs.Refusing.{pass}
 use Rattle.packing.specs.Plans.{check}
 use Rattle.packing.specs.Compared.{used}
 use Rattle.worst_case.proofs.Above.{bit}
@@ -69,5 +70,5 @@ used_numbers k (e ∷ es) h =
 pub used_few : (k : ℕ) (plan : List Entry) → ((e : Entry) → Memᴰ e plan → (1 ≤ e.bin) × (e.bin ≤ k)) → used plan ≤ k
 used_few k plan h = omega (arith, used_numbers k plan h, passing_few k (λ n. any (λ f. eqb f.bin n) plan))
 
-pub used_declared : (c k : ℕ) (plan : List Entry) (sizes : List ℕ) → check c k plan sizes ≡ PlanResult.Passed → used plan ≤ k
+pub used_declared : (c k : ℕ) (plan : List Entry) (sizes : List ℕ) → check c k plan sizes ≡ pass → used plan ≤ k
 used_declared c k plan sizes ok = used_few k plan (passed_fits c k plan sizes ok).bins_good

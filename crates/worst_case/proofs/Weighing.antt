@@ -9,9 +9,10 @@ use native.Mathlib.Omega.{arith}
 use borrow.Author.Tests.{eqb-true, eq-eqb}
 use lib.Dec.{eqb}
 use lib.ListN.{length}
-use Rattle.packing.specs.declared.{Entry.Entry, PlanResult.PlanResult}
+use Rattle.packing.specs.declared.{Entry.Entry}
 use Rattle.std.specs.Prelude.{if◌then◌else◌}
 use Rattle.packing.specs.Prelude.{total, any}
+use Rattle.packing.specs.Refusing.{pass}
 use Rattle.packing.specs.Plans.{on_bin, check}
 use Rattle.packing.specs.Compared.{used}
 use Rattle.worst_case.proofs.Lists.{weigh, sum}
@@ -110,7 +111,7 @@ module _ (w : ℕ → ℕ) where
   abbrev pub MostInABin : (c most : ℕ) → Type 0
   MostInABin c most = (l : List ℕ) → sum l ≤ c → weigh w l ≤ most
 
-  pub weighing : (c k : ℕ) (plan : List Entry) (sizes : List ℕ) → check c k plan sizes ≡ PlanResult.Passed
+  pub weighing : (c k : ℕ) (plan : List Entry) (sizes : List ℕ) → check c k plan sizes ≡ pass
       → (most : ℕ) → MostInABin c most → weigh w sizes ≤ most * used plan
   weighing c k plan sizes ok most bound =
       let fits = passed_fits c k plan sizes ok in

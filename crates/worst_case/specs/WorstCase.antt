@@ -4,7 +4,8 @@
 -- included.
 use Rattle.std.specs.Prelude.{◌+◌, ◌*◌, ◌≤◌, ◌≡◌}
 use Rattle.packing.specs.Prelude.{ℕ, true, List, take}
-use Rattle.packing.specs.declared.{Opening.Opening, Production.Production, Command.Command, Entry.Entry, PlanResult.PlanResult}
+use Rattle.packing.specs.declared.{Opening.Opening, Production.Production, Command.Command, Entry.Entry}
+use Rattle.packing.specs.Refusing.{pass}
 use Rattle.packing.specs.Plans.{check}
 use Rattle.packing.specs.Compared.{accepted_sizes, number_opened, none_altered, used}
 
@@ -14,5 +15,5 @@ use Rattle.packing.specs.Compared.{accepted_sizes, number_opened, none_altered, 
 abbrev pub WorstCase : (C : ℕ) → Opening → Production → List Command → Type 0
 WorstCase C o q cs =
     (j k : ℕ) (plan : List Entry) → none_altered o q (take j cs) ≡ true
-    → check o.capacity k plan (accepted_sizes o q (take j cs)) ≡ PlanResult.Passed
+    → check o.capacity k plan (accepted_sizes o q (take j cs)) ≡ pass
     → 3 * number_opened o q (take j cs) ≤ 5 * used plan + C

@@ -8,10 +8,11 @@ use native.Mathlib.Omega.{arith}
 use native.Mathlib.Nat.{div-mul-le_self, lt-div-mul-add, le-div_iff_mul-le}
 use borrow.Author.Tests.{lt-ltb}
 use lib.ListN.{length, take, replicate}
-use Rattle.packing.specs.declared.{Entry.Entry, PlanResult.PlanResult}
+use Rattle.packing.specs.declared.{Entry.Entry}
 use Rattle.packing.specs.declared.Production.TheVariants.{First}
 use Rattle.packing.specs.declared.Command.TheVariants.{Shelve}
 use Rattle.packing.specs.Prelude.{not}
+use Rattle.packing.specs.Refusing.{pass}
 use Rattle.packing.specs.Limits.{m_good, opening_good}
 use Rattle.packing.specs.SizeClasses.{size_class}
 use Rattle.packing.specs.Bins.{empty, stored}
@@ -105,10 +106,10 @@ module _ (m k : ℕ) (good : m_good m ≡ true) (some : 1 ≤ k) (few : k ≤ st
   few_above : length (above_quarter (front bins)) ≤ k
   few_above = omega (arith, passes_test.few_above, figures.few_pairs)
 
-  plan_good : check capacity k (plan k) (worst k) ≡ PlanResult.Passed
+  plan_good : check capacity k (plan k) (worst k) ≡ pass
   plan_good = plan_passes k (front bins) (omega arith) each_good few_below few_above passes_test.pairs
 
-  none_fewer : (j : ℕ) (other : List Entry) → check capacity j other (worst k) ≡ PlanResult.Passed → k ≤ used other
+  none_fewer : (j : ℕ) (other : List Entry) → check capacity j other (worst k) ≡ pass → k ≤ used other
   none_fewer j other ok =
       omega (arith, halves_weigh (front bins) k, weighing (above capacity 2) capacity j other (worst k) ok 1 (λ l h. omega (arith, above_few capacity 2 l (omega arith) h)))
 

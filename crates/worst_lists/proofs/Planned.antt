@@ -8,9 +8,10 @@ use native.Mathlib.Omega.{arith}
 use borrow.Author.Tests.{eqb-true, leb-true, ne_eqb}
 use lib.Dec.{eqb, leb, ltb}
 use lib.ListN.{length, replicate, length-append, length-map, length-replicate}
-use Rattle.packing.specs.declared.{Entry.Entry, PlanResult.PlanResult}
+use Rattle.packing.specs.declared.{Entry.Entry}
 use Rattle.std.specs.Prelude.{if◌then◌else◌}
 use Rattle.packing.specs.Prelude.{total}
+use Rattle.packing.specs.Refusing.{pass}
 use Rattle.packing.specs.Limits.{most_rows}
 use Rattle.packing.specs.Plans.{on_bin, check}
 use Rattle.packing.proofs.Tests.{both_true, each_cons, each_append}
@@ -160,7 +161,7 @@ module _ (k : ℕ) (ss : List ℕ) where
     pub few_items : length the_sizes ≤ most_rows
     few_items = omega (arith, length-append (replicate k half) ss, length-replicate k half, beside_length ss)
 
-    pub plan_passes : check capacity k the_plan the_sizes ≡ PlanResult.Passed
+    pub plan_passes : check capacity k the_plan the_sizes ≡ pass
     plan_passes =
         fits_passed capacity k the_plan the_sizes
         (record {

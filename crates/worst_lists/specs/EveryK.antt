@@ -2,9 +2,10 @@
 -- ../proofs/EveryK.antt, by demand 3 with the constant 5, and by computing over the lists.
 use Rattle.std.specs.Prelude.{◌≤◌, ◌<◌, ◌≡◌}
 use Rattle.packing.specs.Prelude.{ℕ, true, List, map, length, take, Memᴰ}
-use Rattle.packing.specs.declared.{Opening.Opening, Production.Production, Command.Command, Entry.Entry, PlanResult.PlanResult}
+use Rattle.packing.specs.declared.{Opening.Opening, Production.Production, Command.Command, Entry.Entry}
 use Rattle.packing.specs.declared.Production.TheVariants.{First}
 use Rattle.packing.specs.declared.Command.TheVariants.{Shelve}
+use Rattle.packing.specs.Refusing.{pass}
 use Rattle.packing.specs.Limits.{m_good, opening_good}
 use Rattle.packing.specs.Streams.{accepted, verdict}
 use Rattle.packing.specs.Plans.{check}
@@ -20,9 +21,9 @@ pub record MetBy (m k : ℕ) : Type 0 where
   pub all_accepted : accepted_sizes (opening m) First (map Shelve (worst k)) ≡ worst k
   pub none_is_altered : none_altered (opening m) First (map Shelve (worst k)) ≡ true
   pub opens : number_opened (opening m) First (map Shelve (worst k)) ≡ most k
-  pub passes : check capacity k (plan k) (worst k) ≡ PlanResult.Passed
+  pub passes : check capacity k (plan k) (worst k) ≡ pass
   pub uses : used (plan k) ≡ k
-  pub none_uses_fewer : (j : ℕ) (other : List Entry) → check capacity j other (worst k) ≡ PlanResult.Passed → k ≤ used other
+  pub none_uses_fewer : (j : ℕ) (other : List Entry) → check capacity j other (worst k) ≡ pass → k ≤ used other
 
 abbrev pub EveryKMet : Type 0
 EveryKMet = (m k : ℕ) → m_good m ≡ true → 1 ≤ k → k ≤ stock → MetBy m k
@@ -32,4 +33,4 @@ EveryKMet = (m k : ℕ) → m_good m ≡ true → 1 ≤ k → k ≤ stock → Me
 abbrev pub NeverMore : Type 0
 NeverMore =
     (o : Opening) (q : Production) (cs : List Command) → opening_good o ≡ true → (j k : ℕ) (plan : List Entry) → none_altered o q (take j cs) ≡ true
-    → check o.capacity k plan (accepted_sizes o q (take j cs)) ≡ PlanResult.Passed → number_opened o q (take j cs) ≤ most (used plan)
+    → check o.capacity k plan (accepted_sizes o q (take j cs)) ≡ pass → number_opened o q (take j cs) ≤ most (used plan)

@@ -1,32 +1,58 @@
--- `check_plan` meets its contract: each entry goes to the core's step, and what is found where the walk ends is the check's answer.
-use Rattle.std.proofs.Common.{refl, ap, length}
+-- `check_plan` meets its contract: the walk ends at the first entry that is refused, or after the last item.
+use Rattle.std.proofs.Common.{sym, ap, ◌≡◌, arith, length-append}
+use Rattle.std.proofs.lemmas.Result.{err_from_is_err_and}
+use Rattle.packing.specs.Refusing.{pass}
 use Rattle.packing.specs.Refusals.{plan_gives}
+use Rattle.packing.specs.Plans.{check}
 use Rattle.worst_case.proofs.PlanFits.{exact_as}
-use Rattle.plan_rows.proofs.Checking.{checking_start, checking_checkable, checking_next}
-use Rattle.plan.proofs.Ends.{goes_on, ended}
+use Rattle.plan_rows.proofs.Checking.{blank, limits_refused, one_length, checking_start, checking_next, checking_refused, checking_passed}
+use Rattle.plan.proofs.Numbered.{at_pair, at_end}
 use Rattle.plan.proofs.check_plan.Goals as goal
 
-pub loop-i-init : goal.loop-i-init
-loop-i-init c = record {
-  ends = c.rows_to_walk-end.ensures;
-  checking = rw (← c.check_limits-found.ensures) at (checking_start c.args.capacity c.args.k c.args.plan.now c.args.items.now 4097 refl);
-}
+limited : (c : goal.After-from_residual) → c.from_residual.result ≡ check c.args.capacity c.args.k c.args.plan.now c.args.items.now
+limited c =
+    let p = err_from_is_err_and c.from_residual.result c.from_residual.ensures.1 in
+    rw (p.1, p.2) (limits_refused _ _ _ _ _ c.in_err-check_limits.ensures)
 
-pub check_entry-found-requires : goal.check_entry-found-requires
-check_entry-found-requires c =
-    let left = goes_on c.loop-i.found (length c.args.plan.now) c.loop-i.i (rw c.loop-i.invariant.ends at c.loop-i-test.true) in
-    checking_checkable _ _ _ _ _ _ _ c.loop-i.invariant.checking left.0 left.1
+pub returns-in_err-check_limits-clause-result : goal.returns-in_err-check_limits-clause-result
+returns-in_err-check_limits-clause-result c = ap plan_gives (limited c)
+
+pub returns-in_err-check_limits-clause-exact : goal.returns-in_err-check_limits-clause-exact
+returns-in_err-check_limits-clause-exact c = exact_as _ _ _ _ _ (limited c)
+
+pub loop-i-init : goal.loop-i-init
+loop-i-init c = checking_start _ _ _ _ (sym c.in_ok-check_limits.ensures)
+
+pub check_entry-requires : goal.check_entry-requires
+check_entry-requires c = c.loop-i.invariant.kept
 
 pub loop-i-preserved : goal.loop-i-preserved
 loop-i-preserved c =
-    let left = goes_on c.loop-i.found (length c.args.plan.now) c.loop-i.i (rw c.loop-i.invariant.ends at c.loop-i-test.true) in
-    record {
-      ends = c.rows_to_walk-end-in-loop-i.ensures;
-      checking = checking_next _ _ _ _ _ _ _ c.loop-i.invariant.checking left.0 left.1 _ refl _ _ c.check_entry-found.ensures;
-    }
+    let w = at_pair c.args.plan.now c.args.items.now c.loop-i.yielded _ _ (cc) (cc) (cc) c.loop-i.yielded_by c.next.new.self _ _ c.in-Some.is c.next.ensures.steps in
+    rw length-append
+    (checking_next _ _ _ _ _ _ c.loop-i.invariant w.1 _ (sym (w.3 blank)) _ _ (rw (w.4 0) at c.check_entry.ensures) (grind arith))
+
+refused : (c : goal.After-from_residual-in_err-map_err) → c.from_residual-in_err-map_err.result ≡ check c.args.capacity c.args.k c.args.plan.now c.args.items.now
+refused c =
+    let w = at_pair c.args.plan.now c.args.items.now c.loop-i.yielded _ _ (cc) (cc) (cc) c.loop-i.yielded_by c.next.new.self _ _ c.in-Some.is c.next.ensures.steps in
+    let p = err_from_is_err_and c.from_residual-in_err-map_err.result c.from_residual-in_err-map_err.ensures.1 in
+    rw (p.1, p.2)
+    (checking_refused _ _ _ _ _ _ c.loop-i.invariant w.1 _ (sym (w.3 blank)) _ _ (rw (w.4 0) at c.check_entry.ensures) c.in_err-map_err.field-0.0 (grind arith)
+    (grind (arith, w.2)))
+
+pub returns-in_err-map_err-clause-result : goal.returns-in_err-map_err-clause-result
+returns-in_err-map_err-clause-result c = ap plan_gives (refused c)
+
+pub returns-in_err-map_err-clause-exact : goal.returns-in_err-map_err-clause-exact
+returns-in_err-map_err-clause-exact c = exact_as _ _ _ _ _ (refused c)
+
+passed : (c : goal.In-None) → pass ≡ check c.args.capacity c.args.k c.args.plan.now c.args.items.now
+passed c =
+    let w = at_end c.args.plan.now c.args.items.now c.loop-i.yielded _ _ (cc) (cc) (cc) c.loop-i.yielded_by c.next.new.self _ c.in-None.is c.next.ensures.steps in
+    checking_passed _ _ _ _ _ _ c.loop-i.invariant (omega (arith, w, one_length _ _ _ _ _ _ c.loop-i.invariant))
 
 pub returns-clause-result : goal.returns-clause-result
-returns-clause-result c = ap plan_gives (ended _ _ _ _ _ _ _ c.loop-i.invariant.checking (rw c.loop-i.invariant.ends at c.loop-i-test.false))
+returns-clause-result c = ap plan_gives (passed c)
 
 pub returns-clause-exact : goal.returns-clause-exact
-returns-clause-exact c = exact_as _ _ _ _ _ (ended _ _ _ _ _ _ _ c.loop-i.invariant.checking (rw c.loop-i.invariant.ends at c.loop-i-test.false))
+returns-clause-exact c = exact_as _ _ _ _ _ (passed c)

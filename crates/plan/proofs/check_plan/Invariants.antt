@@ -1,11 +1,7 @@
--- `check_plan`: what is found of the first i entries, and where the walk ends by it. The measure is what is left of the plan.
-use Rattle.std.proofs.Common.{◌≡◌, length, ◌-◌}
-use Rattle.plan.specs.Ends.{rows_to_walk}
+-- `check_plan`: what is still to come after the first i entries.
+use Rattle.std.proofs.Common.{length}
 use Rattle.plan_rows.proofs.Checking.{Checking}
 use Rattle.plan.proofs.check_plan.Given as goal
 
 abbrev pub invariant-loop-i : goal.invariant-loop-i
-invariant-loop-i l = record { ends : l.end ≡ rows_to_walk l.found (length l.plan); checking : Checking l.capacity l.k l.plan l.items l.loads l.i l.found }
-
-abbrev pub decreases-loop-i : goal.decreases-loop-i
-decreases-loop-i l = length l.plan - l.i
+invariant-loop-i l = Checking l.capacity l.k l.plan l.items l.loads (length l.yielded)

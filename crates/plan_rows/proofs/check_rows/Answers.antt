@@ -1,8 +1,33 @@
--- `check_rows` meets its contract: the limits' test, and where it passes the entries.
-use Rattle.packing.specs.Plans.{check}
-use Rattle.plan_rows.proofs.Checking.{plan_length}
+-- `check_rows` meets its contract: the walk ends at the first entry that is refused, or after the last item.
+use Rattle.std.proofs.Common.{sym, arith}
+use Rattle.std.proofs.lemmas.Result.{err_from_is_err_and}
+use Rattle.plan_rows.proofs.Checking.{rows_refused, rows_start, rows_inside, rows_at, checking_next, checking_refused, checking_passed}
 use Rattle.plan_rows.proofs.check_rows.Goals as goal
 
-pub returns-in_default : goal.returns-in_default
-unfolding check
-returns-in_default c = rw (plan_length, ← c.shorter-rows.ensures, ← c.check_limits-limited.ensures, c.in_default.is)
+pub returns-in_err-check_limits : goal.returns-in_err-check_limits
+returns-in_err-check_limits c =
+    let p = err_from_is_err_and c.from_residual.result c.from_residual.ensures.1 in
+    rw (p.1, p.2) (rows_refused _ _ _ _ _ _ (rw c.min-rows.ensures at c.in_err-check_limits.ensures))
+
+pub loop-i-init : goal.loop-i-init
+loop-i-init c = rows_start _ _ _ _ _ (sym (rw c.min-rows.ensures at c.in_ok-check_limits.ensures))
+
+pub bounds-sizes-i : goal.bounds-sizes-i
+bounds-sizes-i c = (rows_inside _ _ _ _ _ _ _ c.loop-i.invariant c.loop-i-test.true).0
+
+pub bounds-bins-i : goal.bounds-bins-i
+bounds-bins-i c = (rows_inside _ _ _ _ _ _ _ c.loop-i.invariant c.loop-i-test.true).1
+
+pub returns-in_err-map_err : goal.returns-in_err-map_err
+returns-in_err-map_err c =
+    let p = err_from_is_err_and c.from_residual-in_err-map_err.result c.from_residual-in_err-map_err.ensures.1 in
+    rw (p.1, p.2)
+    (checking_refused _ _ _ _ _ _ c.loop-i.invariant c.loop-i-test.true _ (rows_at _ _ _ _ _ _ _ c.loop-i.invariant c.loop-i-test.true) _ _ c.check_entry.ensures
+    c.in_err-map_err.field-0.0 (grind arith) (grind arith))
+
+pub loop-i-preserved : goal.loop-i-preserved
+loop-i-preserved c =
+    checking_next _ _ _ _ _ _ c.loop-i.invariant c.loop-i-test.true _ (rows_at _ _ _ _ _ _ _ c.loop-i.invariant c.loop-i-test.true) _ _ c.check_entry.ensures (grind arith)
+
+pub returns : goal.returns
+returns c = checking_passed _ _ _ _ _ _ c.loop-i.invariant c.loop-i-test.false
