@@ -1,17 +1,11 @@
 // A place of a tournament tree is set: the climb from its leaf towards the root that makes every node hold the larger of its children again.
 #![tactic(auto)]
 
-ghost use Rattle.std.specs.Prelude.{◌≡◌, ◌≤◌, ◌<◌, max, get_or};
+ghost use Rattle.std.specs.Prelude.{◌≡◌, ◌≤◌, ◌<◌, get_or};
 ghost use Rattle.tournament.specs.Trees.{leaves, sibling, Tree};
 ghost use Rattle.climb.specs.Stored.{Stored};
 
 use tournament::{ROW_WORDS, Shape};
-
-fn larger(a: u32, b: u32) -> u32
-    ensures { result ≡ max a b }
-{
-    if a < b { b } else { a }
-}
 
 // The other child of the parent of node `n`: the two differ in the lowest digit.
 fn sibling_of(n: usize) -> usize
@@ -52,7 +46,7 @@ pub fn renew(t: &mut [u32; ROW_WORDS], base: usize, shape: Shape, place: usize, 
     t[base + n] = largest;
     while 1 < n {
         let sibling = sibling_of(n);
-        largest = larger(largest, t[base + sibling]);
+        largest = largest.max(t[base + sibling]);
         n = n / 2;
         if t[base + n] == largest {
             return;

@@ -1,7 +1,4 @@
 -- The argument, one step a file, each resting on those above it. A bin is from Filling on the list of its sizes, the last item first, and c the capacity.
--- The order, and the items of a row.
-pub mod LargestFirst
-pub mod Items
 -- The answers, as they are written.
 pub mod Naming
 pub mod Written

@@ -1,7 +1,7 @@
--- Lists: what holds of all members, of a list cut in two, and of lists poured into one.
+-- Lists: what holds of a list cut in two, and of lists poured into one.
 use Prim.Native.Nat.{ℕ, ◌+◌, ◌≤◌}
 use mathlib.Core.Path.{◌≡◌, refl}
-use mathlib.Core.List.{List, [], ◌∷◌, ◌++◌, flatten, Memᴰ}
+use mathlib.Core.List.{List, [], ◌∷◌, ◌++◌, flatten}
 use native.Mathlib.Omega.{arith}
 use lib.ListN.{length, length-append}
 use Rattle.worst_case.proofs.Lists.{All, Pairs, sum, measure, loads, items}
@@ -9,11 +9,6 @@ use Rattle.worst_case.proofs.Lists.{All, Pairs, sum, measure, loads, items}
 -- From 1 to the capacity.
 abbrev pub Within : (c n : ℕ) → Type 0
 Within c n = (1 ≤ n) × (n ≤ c)
-
--- What holds of each member.
-pub all_members : {A : Type 0} (Q : A → Type 0) (l : List A) → ((a : A) → Memᴰ a l → Q a) → All Q l
-all_members Q [] h = tt
-all_members Q (a ∷ l) h = (h a (Memᴰ.head refl), all_members Q l (λ x m. h x (Memᴰ.tail m)))
 
 -- What holds of all, or of every two in order, where the list is cut in two.
 module _ {A : Type 0} where

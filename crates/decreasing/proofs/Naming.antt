@@ -13,10 +13,12 @@ use Rattle.packing.specs.Placing.{first_fit, put}
 use Rattle.packing.specs.Withdrawing.{is_named, holds_named, bin_holding}
 use Rattle.packing.proofs.Putting.{fresh}
 use Rattle.packing.proofs.Weights.{one_for, weight_of, put_weight, any_bin_weighs}
-use Rattle.decreasing.specs.LargestFirst.{items, largest_first}
+use Rattle.ordering.specs.Items.{items}
+use Rattle.ordering.specs.Ordered.{largest_first}
 use Rattle.decreasing.specs.Repack.{has_space, bin_for, next}
-use Rattle.decreasing.proofs.LargestFirst.{sorted_sum}
-use Rattle.decreasing.proofs.Items.{times, times_few}
+use Rattle.ordering.specs.declared.Order.TheVariants.{LargestFirst}
+use Rattle.ordering.proofs.Ordered.{ordered_sum}
+use Rattle.ordering.proofs.Items.{times, times_few}
 
 module _ (takes : Bin → Bool) (class : ℕ) (i : Item) where
   -- The item itself, where no item of its number was held.
@@ -58,7 +60,7 @@ Apart p is = (named : ℕ) → held named p + times named is ≤ 1
 -- The items of a row have different numbers, in whatever order.
 pub row_apart : (sizes : List ℕ) → Apart empty (largest_first (items 1 sizes))
 unfolding total
-row_apart sizes named = omega (arith, sorted_sum (one_for (is_named named)) (items 1 sizes), times_few named 1 sizes)
+row_apart sizes named = omega (arith, ordered_sum LargestFirst (one_for (is_named named)) (items 1 sizes), times_few named 1 sizes)
 
 module _ (c : ℕ) where
   next_held : (named : ℕ) (p : Packing) (i : Item) → held named (next c p i) ≡ held named p + one_for (is_named named) i

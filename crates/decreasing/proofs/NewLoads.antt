@@ -8,9 +8,11 @@ use Rattle.packing.specs.Prelude.{total}
 use Rattle.packing.specs.Bins.{Item, Packing, empty}
 use Rattle.packing.specs.Withdrawing.{bin_holding}
 use Rattle.packing.specs.Plans.{plan_of, on_bin}
-use Rattle.decreasing.specs.LargestFirst.{items, largest_first}
+use Rattle.ordering.specs.Items.{items}
+use Rattle.ordering.specs.Ordered.{largest_first}
 use Rattle.decreasing.specs.Repack.{next, repacked, new_plan}
-use Rattle.decreasing.proofs.LargestFirst.{sorted_sum}
+use Rattle.ordering.specs.declared.Order.TheVariants.{LargestFirst}
+use Rattle.ordering.proofs.Ordered.{ordered_sum}
 use Rattle.decreasing.proofs.Naming.{Apart, row_apart, next_apart, found_for}
 use Rattle.decreasing.proofs.Filling.{lists}
 use Rattle.decreasing.proofs.Loads.{load_of, none_load, share, next_load}
@@ -36,4 +38,4 @@ module _ (c n : ℕ) where
   new_load sizes =
       let last = repacked c sizes in
       let run = run_load (largest_first (items 1 sizes)) empty (row_apart sizes) in
-      omega (arith, plan_load last 1 sizes, sorted_sum (adds last) (items 1 sizes), none_load n)
+      omega (arith, plan_load last 1 sizes, ordered_sum LargestFirst (adds last) (items 1 sizes), none_load n)

@@ -6,8 +6,8 @@ use mathlib.Core.List.{List, [], ◌∷◌, Memᴰ}
 use native.Mathlib.Omega.{arith}
 use native.Mathlib.Decide.{dec_le}
 use lib.ListN.{length, length-map}
-use Rattle.packing.specs.declared.{PlanResult.PlanResult}
 use Rattle.packing.specs.Prelude.{greatest}
+use Rattle.packing.specs.Refusing.{pass}
 use Rattle.packing.specs.Withdrawing.{bin_holding}
 use Rattle.packing.specs.Plans.{check}
 use Rattle.packing.specs.Rows.{SoundRow}
@@ -16,11 +16,12 @@ use Rattle.packing.proofs.Rows.{passed_sound}
 use Rattle.packing.proofs.Numbers.{at_most_greatest}
 use Rattle.worst_case.proofs.InClass.{sizes}
 use Rattle.worst_case.proofs.PlanFits.{fits_passed}
-use Rattle.decreasing.specs.LargestFirst.{items}
+use Rattle.ordering.specs.Items.{items}
 use Rattle.decreasing.specs.Repack.{repacked, new_bins, new_count, new_plan}
 use Rattle.decreasing.specs.Claims.{Promised}
 use Rattle.decreasing.proofs.Written.{new_length}
-use Rattle.decreasing.proofs.Lists.{Within, all_members}
+use Rattle.ordering.proofs.Lists.{all_members}
+use Rattle.decreasing.proofs.Lists.{Within}
 use Rattle.decreasing.proofs.Filling.{lists, Kept}
 use Rattle.decreasing.proofs.Repacked.{repacked_few, repacked_kept}
 use Rattle.decreasing.proofs.ThreeHalves.{three_halves}
@@ -58,7 +59,7 @@ module _ (c words : ℕ) (row : List ℕ) (good : SoundRow c words row) where
     | no h ↦ omega arith
   ]
 
-  plan_passes : check c (new_count c row) (new_plan c row) row ≡ PlanResult.Passed
+  plan_passes : check c (new_count c row) (new_plan c row) row ≡ pass
   plan_passes =
       let in_order = plan_sizes row (new_bins c row) (new_length c row) in
       fits_passed c (new_count c row) (new_plan c row) row

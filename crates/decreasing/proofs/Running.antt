@@ -7,12 +7,13 @@ use native.Mathlib.Decide.{dec_le}
 use lib.ListN.{length, length-map, drop_of_length-le}
 use Rattle.packing.specs.Prelude.{total}
 use Rattle.packing.specs.Bins.{Item, Packing, opened}
-use Rattle.worst_case.proofs.Lists.{All, all_map, weighs}
+use Rattle.worst_case.proofs.Lists.{All, Pairs, all_map, weighs}
 use Rattle.worst_case.proofs.Above.{above, above_one}
 use Rattle.worst_case.proofs.FirstFit.{Fit, put_weighs}
 use Rattle.worst_case.proofs.InClass.{sizes}
 use Rattle.decreasing.specs.Repack.{next}
-use Rattle.decreasing.proofs.LargestFirst.{Decreasing}
+use Rattle.ordering.specs.declared.Order.TheVariants.{LargestFirst}
+use Rattle.ordering.proofs.Ordered.{Follows}
 use Rattle.decreasing.proofs.Lists.{Within}
 use Rattle.decreasing.proofs.Filling.{lists, next_fit, next_opened, Kept, fit_kept, Halved, fit_halved}
 
@@ -42,7 +43,7 @@ module _ (c : ℕ) where
     few_halved p h = let few : length (lists p) ≤ k = omega (arith, length-map p.bins sizes) in rw (drop_of_length-le (lists p) few) tt
 
     -- While the sizes are above a half, there are no more bins than such sizes, so at most k; then come sizes up to a half only.
-    pub run_halved : (is : List Item) (p : Packing) → Decreasing is → opened p + total (map (λ i. above c 2 i.size) is) ≤ k
+    pub run_halved : (is : List Item) (p : Packing) → Pairs (Follows LargestFirst) is → opened p + total (map (λ i. above c 2 i.size) is) ≤ k
         → Halved c k (lists (foldl (next c) p is))
     unfolding total
     run_halved [] p d l = few_halved p (omega arith)

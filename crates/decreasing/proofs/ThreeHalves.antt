@@ -4,7 +4,8 @@ use mathlib.Core.Path.{◌≡◌, subst}
 use mathlib.Core.List.{List, Memᴰ}
 use native.Mathlib.Omega.{arith}
 use lib.ListN.{length-map}
-use Rattle.packing.specs.declared.{Entry.Entry, PlanResult.PlanResult}
+use Rattle.packing.specs.declared.{Entry.Entry}
+use Rattle.packing.specs.Refusing.{pass}
 use Rattle.packing.specs.Plans.{check}
 use Rattle.packing.specs.Compared.{used}
 use Rattle.packing.proofs.Tests.{each_map}
@@ -15,13 +16,14 @@ use Rattle.worst_case.proofs.Used.{used_declared}
 use Rattle.worst_case.proofs.Weighing.{weighing}
 use Rattle.decreasing.specs.Repack.{repacked}
 use Rattle.decreasing.specs.Claims.{ThreeHalves}
-use Rattle.decreasing.proofs.Lists.{Within, all_members}
+use Rattle.ordering.proofs.Lists.{all_members}
+use Rattle.decreasing.proofs.Lists.{Within}
 use Rattle.decreasing.proofs.Filling.{lists}
 use Rattle.decreasing.proofs.Repacked.{repacked_weighs, repacked_kept, repacked_halved}
 use Rattle.decreasing.proofs.Bound.{bound}
 
 -- The sizes of a row that has such a plan are within the capacity.
-planned : (c k : ℕ) (plan : List Entry) (row : List ℕ) → check c k plan row ≡ PlanResult.Passed → (s : ℕ) → Memᴰ s row → Within c s
+planned : (c k : ℕ) (plan : List Entry) (row : List ℕ) → check c k plan row ≡ pass → (s : ℕ) → Memᴰ s row → Within c s
 planned c k plan row ok =
     let fits = passed_fits c k plan row ok in
     subst (λ l. (s : ℕ) → Memᴰ s l → Within c s) fits.items_in_order (each_map (λ e. e.size) (Within c) plan fits.sizes_good)

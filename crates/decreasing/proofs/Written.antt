@@ -13,13 +13,19 @@ use Rattle.packing.specs.Bins.{Item, Packing, empty}
 use Rattle.packing.specs.Withdrawing.{is_named, bin_holding}
 use Rattle.packing.proofs.Weights.{one_for}
 use Rattle.worst_case.proofs.Lists.{All}
-use Rattle.decreasing.specs.LargestFirst.{items, largest_first}
+use Rattle.ordering.specs.Items.{items}
+use Rattle.ordering.specs.Ordered.{largest_first}
 use Rattle.decreasing.specs.Repack.{bin_for, next, repacked, new_bins}
 use Rattle.decreasing.specs.Written.{written}
 use Rattle.decreasing.specs.Claims.{WrittenAll}
-use Rattle.decreasing.proofs.LargestFirst.{sorted_sum, sorted_all}
-use Rattle.decreasing.proofs.Items.{before, items_length, items_at, items_from, times, times_none, times_one}
+use Rattle.ordering.specs.declared.Order.TheVariants.{LargestFirst}
+use Rattle.ordering.proofs.Ordered.{ordered_sum, ordered_all}
+use Rattle.ordering.proofs.Items.{items_length, items_at, items_from, times, times_none, times_one}
 use Rattle.decreasing.proofs.Naming.{Apart, row_apart, next_apart, found_for}
+
+-- How many words stand before an item's.
+abbrev before : Item → ℕ
+before i = i.command - 1
 
 module _ (c : ℕ) where
   -- The row with an item's number.
@@ -68,7 +74,7 @@ module _ (c : ℕ) (sizes row : List ℕ) (enough : length sizes ≤ length row)
   sorted = largest_first (items 1 sizes)
 
   from_one : All (λ i. 1 ≤ i.command) sorted
-  from_one = sorted_all (λ i. 1 ≤ i.command) (items 1 sizes) (items_from 1 sizes (omega arith))
+  from_one = ordered_all LargestFirst (λ i. 1 ≤ i.command) (items 1 sizes) (items_from 1 sizes (omega arith))
 
   abbrev after : List ℕ
   after = drop (length sizes) row
@@ -80,7 +86,7 @@ module _ (c : ℕ) (sizes row : List ℕ) (enough : length sizes ≤ length row)
   same_inside : (n : ℕ) → n < length sizes → Same n
   same_inside n l =
       let some : 1 ≤ times (suc n) sorted =
-      omega (arith, sorted_sum (one_for (is_named (suc n))) (items 1 sizes), times_one (suc n) 1 sizes (omega arith) (omega arith)) in
+      omega (arith, ordered_sum LargestFirst (one_for (is_named (suc n))) (items 1 sizes), times_one (suc n) 1 sizes (omega arith) (omega arith)) in
       let place : 1 + n ≡ suc n = omega arith in
       let named = items_at (λ k. bin_holding k (repacked c sizes)) 1 sizes n l ∙ ap (λ k. bin_holding k (repacked c sizes)) place in
       word c n sorted empty row from_one (row_apart sizes) (omega arith) some
@@ -89,7 +95,7 @@ module _ (c : ℕ) (sizes row : List ℕ) (enough : length sizes ≤ length row)
   same_after : (m : ℕ) → Same (length sizes + m)
   same_after m =
       let none : times (suc (length sizes + m)) sorted ≡ 0 =
-      omega (arith, sorted_sum (one_for (is_named (suc (length sizes + m)))) (items 1 sizes), times_none (suc (length sizes + m)) 1 sizes (inr (omega arith))) in
+      omega (arith, ordered_sum LargestFirst (one_for (is_named (suc (length sizes + m)))) (items 1 sizes), times_none (suc (length sizes + m)) 1 sizes (inr (omega arith))) in
       let past = ap (λ k. get_or (new_bins c sizes ++ after) (k + m) 0) (sym (new_length c sizes)) ∙ get_or-append-add (new_bins c sizes) after m 0 in
       left_alone c (length sizes + m) sorted empty row from_one none ∙ sym (past ∙ get_or-drop (length sizes) row m 0)
 

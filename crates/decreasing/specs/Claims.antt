@@ -1,12 +1,14 @@
 -- What is promised of a repacking, of every row that is not refused.
 use Rattle.std.specs.Prelude.{◌*◌, ◌≤◌, ◌≡◌, ◌++◌}
 use Rattle.packing.specs.Prelude.{ℕ, List, length, drop, greatest, Memᴰ}
-use Rattle.packing.specs.declared.{Opening.Opening, Production.Production, Command.Command, Entry.Entry, PlanResult.PlanResult, RowResult.RowResult}
+use Rattle.packing.specs.declared.{Opening.Opening, Production.Production, Command.Command, Entry.Entry}
+use Rattle.packing.specs.Refusing.{pass}
 use Rattle.packing.specs.Bins.{empty}
 use Rattle.packing.specs.Plans.{check}
 use Rattle.packing.specs.Compared.{used, shelf_plan, shelved_sizes}
 use Rattle.packing.specs.Rows.{check_row}
-use Rattle.decreasing.specs.LargestFirst.{items, largest_first}
+use Rattle.ordering.specs.Items.{items}
+use Rattle.ordering.specs.Ordered.{largest_first}
 use Rattle.decreasing.specs.Repack.{new_bins, new_count, new_plan}
 use Rattle.decreasing.specs.Written.{written}
 
@@ -15,12 +17,12 @@ module _ (capacity : ℕ) (sizes : List ℕ) where
   -- new count is at most three times the bins that the plan uses, of which its k may be more.
   abbrev pub ThreeHalves : Type 0
   ThreeHalves =
-      (k : ℕ) (plan : List Entry) → check capacity k plan sizes ≡ PlanResult.Passed
+      (k : ℕ) (plan : List Entry) → check capacity k plan sizes ≡ pass
       → (2 * new_count capacity sizes ≤ 3 * used plan) × (2 * new_count capacity sizes ≤ 3 * k)
 
   pub record RepackPromises : Type 0 where
     -- "The plan passes the checker", with k the new count.
-    pub plan_passes : check capacity (new_count capacity sizes) (new_plan capacity sizes) sizes ≡ PlanResult.Passed
+    pub plan_passes : check capacity (new_count capacity sizes) (new_plan capacity sizes) sizes ≡ pass
     -- No plan that passes has fewer than two thirds of its bins.
     pub three_halves : ThreeHalves
     -- A number for each size, each from 1 to the count, and none of these left out: the count is the greatest answered, 0 of an empty row.
@@ -31,7 +33,7 @@ module _ (capacity : ℕ) (sizes : List ℕ) where
 
 -- Proved in ../proofs/Promises.antt.
 abbrev pub Promised : Type 0
-Promised = (capacity words : ℕ) (sizes : List ℕ) → check_row capacity words sizes ≡ RowResult.Sound → RepackPromises capacity sizes
+Promised = (capacity words : ℕ) (sizes : List ℕ) → check_row capacity words sizes ≡ pass → RepackPromises capacity sizes
 
 -- The answers written one by one, into a row that has a word for each size, are the new bins. Proved in ../proofs/Written.antt.
 abbrev pub WrittenAll : Type 0
@@ -43,5 +45,5 @@ WrittenAll =
 -- promised holds of it, and against the shelf's own plan too. Proved in ../proofs/OwnShelf.antt of every opening within its limits and every list of
 -- commands that a stream can have.
 pub record OwnShelf (o : Opening) (q : Production) (cs : List Command) : Type 0 where
-  pub sound : (words : ℕ) → length (shelved_sizes o q cs) ≤ words → check_row o.capacity words (shelved_sizes o q cs) ≡ RowResult.Sound
+  pub sound : (words : ℕ) → length (shelved_sizes o q cs) ≤ words → check_row o.capacity words (shelved_sizes o q cs) ≡ pass
   pub no_worse : 2 * new_count o.capacity (shelved_sizes o q cs) ≤ 3 * used (shelf_plan o q cs)

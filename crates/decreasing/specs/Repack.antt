@@ -1,12 +1,14 @@
 -- First-Fit-Decreasing: the items of a row, largest first, each into the first bin with space or into a new one; and what the call of a repacking gives.
 use Rattle.std.specs.Prelude.{◌+◌, ◌++◌}
-use Rattle.packing.specs.Prelude.{ℕ, suc, Bool, List, [], map, foldl, length, drop, ◌≤?◌}
-use Rattle.packing.specs.declared.{Entry.Entry, RowResult.RowResult, RepackResult.RepackResult}
+use Rattle.packing.specs.Prelude.{ℕ, suc, Bool, List, [], map, foldl, length, drop, ◌≤?◌, Ok, Err}
+use Rattle.packing.specs.declared.{Entry.Entry}
+use Rattle.packing.specs.Refusing.{RowResult, RepackResult}
 use Rattle.packing.specs.Bins.{Item, Bin, Packing, empty, opened, load}
 use Rattle.packing.specs.Placing.{first_fit, put}
 use Rattle.packing.specs.Withdrawing.{bin_holding}
 use Rattle.packing.specs.Plans.{plan_of}
-use Rattle.decreasing.specs.LargestFirst.{items, largest_first}
+use Rattle.ordering.specs.Items.{items}
+use Rattle.ordering.specs.Ordered.{largest_first}
 
 module _ (capacity : ℕ) where
   -- The bin's load plus the size is at most the capacity.
@@ -42,10 +44,10 @@ module _ (capacity : ℕ) where
 
     -- What is returned, by what the checks of the row come to.
     abbrev pub repack_result : (old : ℕ) → RowResult → RepackResult
-    repack_result old RowResult.Sound = RepackResult.Repacked new_count (saves_nothing old)
-    repack_result old (RowResult.Refused reason place) = RepackResult.Refused reason place
+    repack_result old (Ok passed) = Ok (record { count = new_count; saves_nothing = saves_nothing old })
+    repack_result old (Err refusal) = Err refusal
 
     -- The answer row at exit: "words past the last answer are untouched", and of a refused call "nothing is written".
     abbrev pub answers_at_exit : RowResult → (row : List ℕ) → List ℕ
-    answers_at_exit RowResult.Sound row = new_bins ++ drop (length sizes) row
-    answers_at_exit (RowResult.Refused reason place) row = row
+    answers_at_exit (Ok passed) row = new_bins ++ drop (length sizes) row
+    answers_at_exit (Err refusal) row = row

@@ -7,16 +7,11 @@ use Rattle.packing.specs.Rows.{SoundPair}
 use Rattle.ordering.specs.declared.Order.TheVariants.{SmallestFirst}
 use Rattle.sorted_sizes.specs.Words.{InLimits}
 use Rattle.sorted_sizes.specs.Sorted.{Sorted}
-use Rattle.sorted_sizes.proofs.Laying.{copied}
 use Rattle.sorted_sizes.proofs.Sorting.{sound_limits}
 use Rattle.matching.specs.Pairs.{pairs, sound_places}
 use Rattle.matching.specs.Written.{written}
 use Rattle.matching.proofs.Written.{written_all}
 use Rattle.pairs.specs.Walked.{pairs_of, Walked}
-
--- Zeros written one after the other: so many stand at the front of the row.
-abbrev pub cleared : (n : ℕ) (row : List ℕ) (i : ℕ) → List ℕ
-cleared n row i = copied (replicate n 0) row i
 
 module _ (c : ℕ) (pictures sounds answers : List ℕ) (g : SoundPair c (length answers) pictures sounds) where
   pub pictures_limits : InLimits c pictures
@@ -27,10 +22,10 @@ module _ (c : ℕ) (pictures sounds answers : List ℕ) (g : SoundPair c (length
 
   module _ (rising falling : List ℕ) (s : Sorted SmallestFirst c pictures rising) (t : Sorted SmallestFirst c sounds falling)
       (row : List ℕ) (e : row ≡ replicate (length pictures) 0 ++ drop (length pictures) answers) where
-    the_pairs : pairs_of c (length pictures) (length sounds) rising falling ≡ pairs c pictures sounds
+    the_pairs : pairs_of c rising falling ≡ pairs c pictures sounds
     the_pairs = rw (s.in_order, t.in_order)
 
-    module _ (count : ℕ) (exit : List ℕ) (w : Walked c (length pictures) (length sounds) rising falling row count exit) where
+    module _ (count : ℕ) (exit : List ℕ) (w : Walked c rising falling row count exit) where
       pub walked_answers : exit ≡ sound_places c pictures sounds ++ drop (length pictures) answers
       walked_answers =
           w.places_written ∙ ap (λ ps. written ps row) the_pairs ∙ ap (written (pairs c pictures sounds)) e

@@ -2,31 +2,18 @@
 // from both ends: the pictures from the smallest up, the sounds from the largest down.
 #![tactic(auto)]
 
-ghost use Rattle.std.specs.Prelude.{◌≡◌, ◌++◌, ◌%◌, ◌≤◌, ◌<◌, length, drop, replicate};
-ghost use Rattle.packing.specs.declared.RowResult.{RowResult};
+ghost use Rattle.std.specs.Prelude.{◌≡◌, ◌++◌, ◌%◌, ◌<◌, length, drop};
 ghost use Rattle.packing.specs.Rows.{check_pair, SoundPair};
 ghost use Rattle.matching.specs.Pairs.{sound_places, pair_count, pair_result, places_at_exit};
 ghost use Rattle.pairs.specs.Walked.{Tried, Walkable, Walked};
 
 use ordering::Order;
-use packing::{PairResult, RowResult};
+use packing::PairResult;
 use sorting::ROWS;
 
-// Writes 0 for each of the first `n` answers.
-fn clear(answers: &mut [u16], n: usize)
-    requires { n ≤ length answers.old }
-    ensures { answers.new ≡ replicate n 0 ++ drop n answers.old }
-{
-    let mut i: usize = 0;
-    while i < n {
-        answers[i] = 0;
-        i += 1;
-    }
-}
-
-// Pairs a picture and a sound, each a word of its row, if they fit together: the sound's place, from 1, goes to the picture's answer. It tells how many
-// pairs that makes, 1 or 0.
-fn try_pair(picture: u64, sound: u64, answers: &mut [u16], capacity: u32) -> usize
+// Pairs a picture and a sound, each a word of its row, if they fit together: the sound's place, from 1, goes to the picture's answer. It tells whether
+// they do.
+fn try_pair(picture: u64, sound: u64, answers: &mut [u16], capacity: u32) -> bool
     requires { picture % 4096 < length answers.old }
     ensures { Tried capacity picture sound answers.old result answers.new }
 {
@@ -34,38 +21,29 @@ fn try_pair(picture: u64, sound: u64, answers: &mut [u16], capacity: u32) -> usi
     let sound_size = sound / 4096 + 1;
     let most = capacity as u64;
     if most < picture_size + sound_size {
-        return 0;
+        return false;
     }
     let at = (picture % 4096) as usize;
     let place = sound % 4096 + 1;
     answers[at] = place as u16;
-    1
+    true
 }
 
-// Walks over the first `n` pictures from the front and the first `m` sounds from the back: each sound is paired with the next picture, or is too large for
-// it and so for all that follow. It tells how many pairs there are.
-fn walk(
-    pictures: &[u64; ROWS],
-    n: usize,
-    sounds: &[u64; ROWS],
-    m: usize,
-    answers: &mut [u16],
-    capacity: u32,
-) -> usize
-    requires { Walkable n m pictures.now sounds.now answers.old }
-    ensures { Walked capacity n m pictures.now sounds.now answers.old result answers.new }
+// Walks over the pictures from the front and the sounds from the back: each sound is paired with the next picture, or is too large for it and so for all that
+// follow. It tells how many pairs there are.
+fn walk(pictures: &[u64], sounds: &[u64], answers: &mut [u16], capacity: u32) -> usize
+    requires { Walkable pictures.now answers.old }
+    ensures { Walked capacity pictures.now sounds.now answers.old result answers.new }
 {
     let mut paired: usize = 0;
-    let mut left = m;
-    while paired < n {
-        if left == 0 {
+    for &sound in sounds.iter().rev() {
+        if paired == pictures.len() {
             return paired;
         }
-        left -= 1;
         let picture = pictures[paired];
-        let sound = sounds[left];
-        let step = try_pair(picture, sound, answers, capacity);
-        paired += step;
+        if try_pair(picture, sound, answers, capacity) {
+            paired += 1;
+        }
     }
     paired
 }
@@ -79,32 +57,24 @@ fn fill(pictures: &[u32], sounds: &[u32], answers: &mut [u16], capacity: u32) ->
     let mut row = [0u64; ROWS];
     let mut rising = [0u64; ROWS];
     let mut falling = [0u64; ROWS];
+    let rising = &mut rising[..pictures.len()];
+    let falling = &mut falling[..sounds.len()];
     let order = Order::SmallestFirst;
-    sorted_sizes::sort_sizes(pictures, &mut row, &mut rising, capacity, order);
-    sorted_sizes::sort_sizes(sounds, &mut row, &mut falling, capacity, order);
-    clear(answers, pictures.len());
-    walk(
-        &rising,
-        pictures.len(),
-        &falling,
-        sounds.len(),
-        answers,
-        capacity,
-    )
+    let part = &mut row[..pictures.len()];
+    sorted_sizes::sort_sizes(pictures, part, rising, capacity, order);
+    let part = &mut row[..sounds.len()];
+    sorted_sizes::sort_sizes(sounds, part, falling, capacity, order);
+    answers[..pictures.len()].fill(0);
+    walk(rising, falling, answers, capacity)
 }
 
 // "Picture and sound together": each picture's sound, by its place from 1, or 0 goes to the answers, and the number of pairs is returned. Nothing is written
 // where a check refuses.
+#[tactic(auto, using(packing::proofs::Rows::passed_pair))]
 pub fn pair(pictures: &[u32], sounds: &[u32], answers: &mut [u16], capacity: u32) -> PairResult
     ensures result { result ≡ pair_result capacity pictures.now sounds.now (check_pair capacity (length answers.old) pictures.now sounds.now) }
     ensures answers { answers.new ≡ places_at_exit capacity pictures.now sounds.now (check_pair capacity (length answers.old) pictures.now sounds.now) answers.old }
 {
-    let checked = row_limits::check_pair(pictures, sounds, answers.len(), capacity);
-    match checked {
-        RowResult::Sound => {
-            let count = fill(pictures, sounds, answers, capacity);
-            PairResult::Paired(count)
-        }
-        RowResult::Refused { reason, place } => PairResult::Refused { reason, place },
-    }
+    row_limits::check_pair(pictures, sounds, answers.len(), capacity)?;
+    Ok(fill(pictures, sounds, answers, capacity))
 }

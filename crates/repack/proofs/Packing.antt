@@ -6,8 +6,8 @@ use mathlib.Core.List.{List, [], ◌∷◌, map, foldl}
 use Prim.Native.Nat.{ℕ, suc, ◌+◌, ◌-◌, ◌/◌, ◌%◌, ◌≤◌, ◌<◌, max}
 use native.Mathlib.Numerals.{add-one}
 use native.Mathlib.Omega.{arith}
-use lib.ListN.{length, get_or, take, drop, set, replicate, length-replicate, get_or-replicate, length-set, drop_of_length-le}
-use lib.Seq.{drop-cons, get_or-take, length-take-le, ext_get_or}
+use lib.ListN.{length, get_or, drop, set, replicate, length-replicate, get_or-replicate, length-set, drop_of_length-le}
+use lib.Seq.{drop-cons, ext_get_or}
 use Rattle.packing.specs.Limits.{most_rows}
 use Rattle.packing.specs.Bins.{Item, Packing, empty, opened}
 use Rattle.packing.proofs.Reached.{first_few}
@@ -19,7 +19,8 @@ use Rattle.tournament.proofs.Leaves.{leaves_length}
 use Rattle.tournament.proofs.Empty.{zero_tree, zero_place}
 use Rattle.decreasing.specs.Repack.{has_space, next}
 use Rattle.decreasing.specs.Written.{written}
-use Rattle.repack.specs.Words.{item_of}
+use Rattle.ordering.specs.declared.Order.TheVariants.{LargestFirst}
+use Rattle.sorted_sizes.specs.Words.{item_of}
 use Rattle.repack.specs.Shown.{Shows, Placed, Places}
 use Rattle.repack.specs.Packed.{Packable, Packed}
 
@@ -45,65 +46,64 @@ module _ (c n : ℕ) (shape : Shape) (fitted : Fitted n shape) (few : n ≤ most
     none_over = λ b m. absurd (Memᴰ.not-nil m);
   }
 
-module _ (c n : ℕ) (words row₀ : List ℕ) where
+module _ (c : ℕ) (words row₀ : List ℕ) where
+  -- The item of a word.
+  abbrev item : ℕ → Item
+  item = item_of LargestFirst c
+
   -- The items from word k on.
   abbrev rest : (k : ℕ) → List Item
-  rest k = map (item_of c) (drop k (take n words))
+  rest k = map item (drop k words)
 
   pub record Underway (shape : Shape) (k count : ℕ) (t row : List ℕ) : Type 0 where
     pub packing : Packing
     pub shows : Shows c shape count t packing
     pub few : count ≤ k
-    pub in_row : k ≤ n
     pub places : length row ≡ length row₀
     pub numbers : written c packing (rest k) row ≡ written c empty (rest 0) row₀
     pub bins : foldl (next c) packing (rest k) ≡ foldl (next c) empty (rest 0)
 
-  pub underway_start : (shape : Shape) → Fitted n shape → n ≤ most_rows → (m : ℕ) → m ≡ row_words → Underway shape 0 0 (replicate m 0) row₀
+  pub underway_start : (shape : Shape) → Fitted (length words) shape → length words ≤ most_rows → (m : ℕ) → m ≡ row_words
+      → Underway shape 0 0 (replicate m 0) row₀
   underway_start shape fitted few m e =
-      record { packing = empty; shows = nothing_shown c n shape fitted few m e; few = omega arith; in_row = omega arith; places = refl; numbers = refl; bins = refl }
+      record { packing = empty; shows = nothing_shown c (length words) shape fitted few m e; few = omega arith; places = refl; numbers = refl; bins = refl }
 
-  module _ (g : Packable c n words row₀) {shape : Shape} (fitted : Fitted n shape) {k count : ℕ} {t row : List ℕ}
-      (u : Underway shape k count t row) (l : k < n) where
+  module _ (g : Packable c words row₀) {shape : Shape} (fitted : Fitted (length words) shape) {k count : ℕ} {t row : List ℕ}
+      (u : Underway shape k count t row) (l : k < length words) where
     abbrev here : ℕ
     here = get_or words k 0
 
-    rest_cons : rest k ≡ item_of c here ∷ rest (k + 1)
-    rest_cons =
-        let in_row : k < length (take n words) = omega (arith, length-take-le n words (omega (arith, g.whole, g.few))) in
-        let cut : drop k (take n words) ≡ get_or (take n words) k 0 ∷ drop (suc k) (take n words) = drop-cons (take n words) k 0 in_row in
-        rw (cut, get_or-take n words k 0 l, add-one)
+    rest_cons : rest k ≡ item here ∷ rest (k + 1)
+    rest_cons = rw (drop-cons words k 0 l, add-one)
 
     module _ {bin : ℕ} {t' : List ℕ} (places : Places c shape count (c - here / most_rows) t bin t') where
-      placed : Placed c shape count u.packing (item_of c here) bin t'
-      placed = places u.packing (item_of c here) u.shows refl
+      placed : Placed c shape count u.packing (item here) bin t'
+      placed = places u.packing (item here) u.shows refl
 
       pub bin_few : bin ≤ 4096
-      bin_few = omega (arith, placed.in_tree, few_places c n shape fitted g.few row_words refl)
+      bin_few = omega (arith, placed.in_tree, few_places c (length words) shape fitted g.few row_words refl)
 
       pub underway_next : Underway shape (k + 1) (max count bin) t' (set row (here % most_rows) bin)
       unfolding written
       underway_next =
           let before : suc (here % most_rows) - 1 ≡ here % most_rows = omega arith in
           record {
-            packing = next c u.packing (item_of c here);
+            packing = next c u.packing (item here);
             shows = placed.shows;
-            few = omega (arith, u.few, placed.by_first_fit, u.shows.counted, first_few (has_space c (item_of c here)) u.packing.bins);
-            in_row = omega arith;
+            few = omega (arith, u.few, placed.by_first_fit, u.shows.counted, first_few (has_space c (item here)) u.packing.bins);
             places = length-set row (here % most_rows) bin ∙ u.places;
             numbers =
-                ap (λ j. written c (next c u.packing (item_of c here)) (rest (k + 1)) (set row j bin)) (sym before)
-                ∙ ap (λ b. written c (next c u.packing (item_of c here)) (rest (k + 1)) (set row (suc (here % most_rows) - 1) b)) placed.by_first_fit
+                ap (λ j. written c (next c u.packing (item here)) (rest (k + 1)) (set row j bin)) (sym before)
+                ∙ ap (λ b. written c (next c u.packing (item here)) (rest (k + 1)) (set row (suc (here % most_rows) - 1) b)) placed.by_first_fit
                 ∙ sym (ap (λ is. written c u.packing is row) rest_cons) ∙ u.numbers;
             bins = sym (ap (foldl (next c) u.packing) rest_cons) ∙ u.bins;
           }
 
-  pub underway_end : {shape : Shape} {k count : ℕ} {t row : List ℕ} → Packable c n words row₀ → k ≡ n → Underway shape k count t row → Packed c n words row₀ count row
+  pub underway_end : {shape : Shape} {k count : ℕ} {t row : List ℕ} → length words ≤ k → Underway shape k count t row → Packed c words row₀ count row
   unfolding written
-  underway_end {k = k} {row = row} g e u =
-      let none : drop k (take n words) ≡ [] =
-      drop_of_length-le (take n words) {i = k} (omega (arith, length-take-le n words (omega (arith, g.whole, g.few)))) in
+  underway_end {k = k} {row = row} l u =
+      let none : drop k words ≡ [] = drop_of_length-le words l in
       record {
-        counted = u.shows.counted ∙ ap opened (sym (ap (λ l. foldl (next c) u.packing (map (item_of c) l)) none) ∙ u.bins);
-        numbers_written = sym (ap (λ l. written c u.packing (map (item_of c) l) row) none) ∙ u.numbers;
+        counted = u.shows.counted ∙ ap opened (sym (ap (λ l. foldl (next c) u.packing (map item l)) none) ∙ u.bins);
+        numbers_written = sym (ap (λ l. written c u.packing (map item l) row) none) ∙ u.numbers;
       }

@@ -7,45 +7,45 @@ use native.Mathlib.Omega.{arith}
 use borrow.Author.Tests.{leb-true, leb-false, le-leb, lt-leb, ltb-true, ltb-false, lt-ltb, le-ltb}
 use lib.Dec.{leb, ltb}
 use lib.ListN.{length, get_or, replicate, set}
-use Rattle.std.specs.Prelude.{if◌then◌else◌}
+use Rattle.std.specs.Prelude.{if◌then◌else◌, Option, Some, None}
+use Rattle.std.specs.Option.{option_map}
 use Rattle.packing.specs.Prelude.{total}
 use Rattle.packing.specs.Bins.{Item, Bin, Packing, load, add}
 use Rattle.packing.specs.Placing.{first_fit, put}
 use Rattle.packing.proofs.Tests.{clash}
 use Rattle.packing.proofs.Putting.{fresh, put_length, put_each}
 use Rattle.packing.proofs.Reached.{first_few}
-use Rattle.tournament.specs.declared.{Shape.Shape, Found.Found}
-use Rattle.tournament.specs.declared.Found.TheVariants.{At, Nothing}
+use Rattle.tournament.specs.declared.Shape.{Shape}
 use Rattle.tournament.specs.Trees.{leaves}
-use Rattle.tournament.specs.LowestFit.{further, lowest_fit}
-use Rattle.tournament.proofs.Fits.{Lowest, Meaning, meaning}
+use Rattle.tournament.specs.LowestFit.{lowest_fit}
+use Rattle.tournament.proofs.Fits.{Lowest, Meaning, meaning, fit_cons}
 use Rattle.tournament.proofs.Leaves.{leaves_length}
 use Rattle.climb.specs.Stored.{Stored}
 use Rattle.decreasing.specs.Repack.{has_space}
 use Rattle.repack.specs.Shown.{frees, Shows, Placed}
 
 -- Place f, if it is among so many.
-abbrev spot : (f n : ℕ) → Found
-spot f n = if ltb f n then At f else Nothing
+abbrev spot : (f n : ℕ) → Option ℕ
+spot f n = if ltb f n then Some f else None
 
-spot_further : (f n : ℕ) → further (spot f n) ≡ spot (suc f) (suc n)
+spot_further : (f n : ℕ) → option_map suc (spot f n) ≡ spot (suc f) (suc n)
 spot_further f n = go (ltb f n) refl
   where
-    go : (t : Bool) → ltb f n ≡ t → further (if t then At f else Nothing) ≡ spot (suc f) (suc n)
+    go : (t : Bool) → ltb f n ≡ t → option_map suc (if t then Some f else None) ≡ spot (suc f) (suc n)
     go true e = rw (lt-ltb (suc f) (suc n) (omega (arith, ltb-true f n e)))
     go false e = rw (le-ltb (suc f) (suc n) (omega (arith, ltb-false f n e)))
 
-spot_at_lem : (f n j : ℕ) → spot f n ≡ At j → (f < n) × (f ≡ j)
+spot_at_lem : (f n j : ℕ) → spot f n ≡ Some j → (f < n) × (f ≡ j)
 spot_at_lem f n j e = go (ltb f n) refl e
   where
-    go : (t : Bool) → ltb f n ≡ t → (if t then At f else Nothing) ≡ At j → (f < n) × (f ≡ j)
+    go : (t : Bool) → ltb f n ≡ t → (if t then Some f else None) ≡ Some j → (f < n) × (f ≡ j)
     go true q e = (ltb-true f n q, cc)
     go false q e = clash (cc)
 
-spot_nothing : (f n : ℕ) → spot f n ≡ Nothing → n ≤ f
+spot_nothing : (f n : ℕ) → spot f n ≡ None → n ≤ f
 spot_nothing f n e = go (ltb f n) refl e
   where
-    go : (t : Bool) → ltb f n ≡ t → (if t then At f else Nothing) ≡ Nothing → n ≤ f
+    go : (t : Bool) → ltb f n ≡ t → (if t then Some f else None) ≡ None → n ≤ f
     go true q e = clash (cc)
     go false q e = ltb-false f n q
 
@@ -65,22 +65,22 @@ module _ (c : ℕ) (i : Item) where
       go false e = lt-leb i.size (c - load b) (omega (arith, leb-false (load b + i.size) c e))
 
   -- Among places without a bin nothing is found.
-  none_free : 1 ≤ i.size → (k : ℕ) → lowest_fit i.size (replicate k 0) ≡ Nothing
+  none_free : 1 ≤ i.size → (k : ℕ) → lowest_fit i.size (replicate k 0) ≡ None
   unfolding lowest_fit
   none_free some zero = refl
-  none_free some (suc k) = rw (lt-leb i.size 0 some, none_free some k)
+  none_free some (suc k) = rw (fit_cons, lt-leb i.size 0 some, none_free some k)
 
   first_found : 1 ≤ i.size → (bins : List Bin) (k : ℕ) → ((b : Bin) → Memᴰ b bins → load b ≤ c)
       → lowest_fit i.size (frees c bins ++ replicate k 0) ≡ spot (first_fit takes bins) (length bins)
-  unfolding lowest_fit first_fit
+  unfolding first_fit
   first_found some [] k h = none_free some k
   first_found some (b ∷ bs) k h =
-      rw (same_test b (h b (Memᴰ.head refl))) (go (takes b) (first_found some bs k (λ x m. h x (Memᴰ.tail m))))
+      rw (fit_cons, same_test b (h b (Memᴰ.head refl))) (go (takes b) (first_found some bs k (λ x m. h x (Memᴰ.tail m))))
     where
       go : (t : Bool) → lowest_fit i.size (frees c bs ++ replicate k 0) ≡ spot (first_fit takes bs) (length bs)
-          → cond t (At 0) (further (lowest_fit i.size (frees c bs ++ replicate k 0))) ≡ spot (if t then 0 else suc (first_fit takes bs)) (suc (length bs))
+          → cond t (Some 0) (option_map suc (lowest_fit i.size (frees c bs ++ replicate k 0))) ≡ spot (if t then 0 else suc (first_fit takes bs)) (suc (length bs))
       go true r = rw (lt-ltb 0 (suc (length bs)) (omega arith))
-      go false r = ap further r ∙ spot_further (first_fit takes bs) (length bs)
+      go false r = ap (option_map suc) r ∙ spot_further (first_fit takes bs) (length bs)
 
   -- What the places show then: in a bin with space so much less; or a new bin.
   shown_there : (bins : List Bin) (k : ℕ) → first_fit takes bins < length bins
@@ -119,7 +119,7 @@ module _ (c : ℕ) (i : Item) where
     spotted : lowest_fit i.size (leaves t 0 shape.places) ≡ spot (first_fit takes p.bins) (length p.bins)
     spotted = ap (lowest_fit i.size) s.shown ∙ first_found some p.bins (shape.places - count) s.none_over
 
-    pub into_found : (j : ℕ) (u : List ℕ) → lowest_fit i.size (leaves t 0 shape.places) ≡ At j
+    pub into_found : (j : ℕ) (u : List ℕ) → lowest_fit i.size (leaves t 0 shape.places) ≡ Some j
         → Stored 0 shape t j (get_or (leaves t 0 shape.places) j 0 - i.size) u → Placed c shape count p i (j + 1) u
     into_found j u e w =
         let here = spot_at_lem (first_fit takes p.bins) (length p.bins) j (sym spotted ∙ e) in
@@ -140,7 +140,7 @@ module _ (c : ℕ) (i : Item) where
           };
         }
 
-    pub into_new : (u : List ℕ) → lowest_fit i.size (leaves t 0 shape.places) ≡ Nothing → count < shape.places
+    pub into_new : (u : List ℕ) → lowest_fit i.size (leaves t 0 shape.places) ≡ None → count < shape.places
         → Stored 0 shape t count (c - i.size) u → Placed c shape count p i (count + 1) u
     into_new u e room w =
         let counted = s.counted in
@@ -170,11 +170,11 @@ module _ {c : ℕ} {shape : Shape} {count : ℕ} {t : List ℕ} {p : Packing} (s
   place_count = leaves_length t 0 shape.places (omega (arith, s.tree.room, s.tree.words))
 
   -- The place that is found is one of the tree's, and has enough.
-  found_lowest : (need : ℕ) {j : ℕ} {f : Found} → f ≡ lowest_fit need (leaves t 0 shape.places) → f ≡ At j → Lowest need (leaves t 0 shape.places) j
+  found_lowest : (need : ℕ) {j : ℕ} {f : Option ℕ} → f ≡ lowest_fit need (leaves t 0 shape.places) → f ≡ Some j → Lowest need (leaves t 0 shape.places) j
   found_lowest need e at = subst (Meaning need (leaves t 0 shape.places)) (sym e ∙ at) (meaning need (leaves t 0 shape.places))
 
-  pub found_inside : (need : ℕ) {j : ℕ} {f : Found} → f ≡ lowest_fit need (leaves t 0 shape.places) → f ≡ At j → j < shape.places
+  pub found_inside : (need : ℕ) {j : ℕ} {f : Option ℕ} → f ≡ lowest_fit need (leaves t 0 shape.places) → f ≡ Some j → j < shape.places
   found_inside need e at = omega (arith, (found_lowest need e at).inside, place_count)
 
-  pub found_enough : (need : ℕ) {j : ℕ} {f : Found} → f ≡ lowest_fit need (leaves t 0 shape.places) → f ≡ At j → need ≤ get_or (leaves t 0 shape.places) j 0
+  pub found_enough : (need : ℕ) {j : ℕ} {f : Option ℕ} → f ≡ lowest_fit need (leaves t 0 shape.places) → f ≡ Some j → need ≤ get_or (leaves t 0 shape.places) j 0
   found_enough need e at = (found_lowest need e at).enough

@@ -3,5 +3,3 @@ pub mod Laying
 pub mod Ordering
 pub mod InOrder
 pub mod Sorting
--- The words taken one after the other.
-pub mod Fronts

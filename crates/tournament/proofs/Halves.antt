@@ -12,7 +12,7 @@ use lib.ListN.{length}
 use lib.Pow.{pow_pos}
 use borrow.Author.Tests.{le-leb, lt-leb}
 use Rattle.tournament.specs.declared.Shape.{Shape}
-use Rattle.tournament.specs.declared.Found.TheVariants.{At, Nothing}
+use Rattle.std.specs.Prelude.{Some, None}
 use Rattle.tournament.specs.Trees.{row_words, node, leaves, Tree}
 use Rattle.tournament.specs.LowestFit.{lowest_fit}
 use Rattle.tournament.specs.Descent.{Under, Descent, First}
@@ -119,12 +119,12 @@ module _ {b : ℕ} {shape : Shape} {t : List ℕ} (tree : Tree b shape t) where
   root need l = record { under = root_under; room = omega (arith, tree.power, tree.room); enough = l }
 
   pub root_found : (need leaf : ℕ) → First t b 1 shape.height need leaf
-      → At (leaf - shape.places) ≡ lowest_fit need (leaves t b shape.places)
+      → Some (leaf - shape.places) ≡ lowest_fit need (leaves t b shape.places)
   root_found need leaf f =
       let place = leaf - shape.places in
       let node_of : shape.places + place ≡ leaf = omega (arith, f.low, tree.power) in
       let inside : place < shape.places = omega (arith, f.high, f.low, tree.power) in
-      meant need (leaves t b shape.places) (At place) (record {
+      meant need (leaves t b shape.places) (Some place) (record {
         inside = omega (arith, count);
         enough = rw (leaf_node t b shape.places place inside, node_of) f.enough;
         before = λ k l. let below : k < shape.places = omega arith in
@@ -132,9 +132,9 @@ module _ {b : ℕ} {shape : Shape} {t : List ℕ} (tree : Tree b shape t) where
             (f.before (shape.places + k) (omega (arith, tree.power)) (omega arith));
       })
 
-  pub root_lacking : (need : ℕ) → node t b 1 < need → Nothing ≡ lowest_fit need (leaves t b shape.places)
+  pub root_lacking : (need : ℕ) → node t b 1 < need → None ≡ lowest_fit need (leaves t b shape.places)
   root_lacking need l =
-      meant need (leaves t b shape.places) Nothing (λ k x.
+      meant need (leaves t b shape.places) None (λ k x.
       let inside : k < shape.places = omega (arith, count) in
       rw (leaf_node t b shape.places k inside)
       (omega (arith, leaf_below t b shape.height 1 (shape.places + k) root_under (omega (arith, tree.power)) (omega (arith, tree.power)))))

@@ -1,43 +1,40 @@
 -- Powers of two, doubled as long as they stay below the number of bins; and so at most the next power.
 use mathlib.Core.Path.{◌≡◌}
-use Prim.Native.Nat.{ℕ, zero, suc, ◌+◌, ◌*◌, ◌^◌, ◌≤◌, ◌<◌}
+use Prim.Native.Nat.{ℕ, zero, suc, ◌*◌, ◌/◌, ◌^◌, ◌≤◌, ◌<◌, max}
 use native.Mathlib.Nat.{two-pow-succ}
-use native.Mathlib.Numerals.{add-one}
 use native.Mathlib.Decide.{dec_le}
 use native.Mathlib.Omega.{arith}
-use lib.Pow.{pow_mono}
+use lib.Pow.{pow_mono, pow_pos, pow-lt}
 use Rattle.tournament.specs.declared.Shape.{Shape}
+use Rattle.std.specs.Int.{IsPowerOfTwo}
 use Rattle.tournament.specs.Shapes.{Fitted}
-
--- So far: no lower power reaches the number.
-pub record Growing (bins places height : ℕ) : Type 0 where
-  pub power : places ≡ 2 ^ height
-  pub few : places ≤ 4096
-  pub low : height ≤ 12
-  pub least : (k : ℕ) → bins ≤ 2 ^ k → height ≤ k
 
 -- A power of two is above its exponent.
 pub below_power : (h : ℕ) → h < 2 ^ h
 below_power zero = omega arith
 below_power (suc h) = omega (arith, two-pow-succ h, below_power h)
 
-exponent : (h k : ℕ) → 2 ^ h < 2 ^ k → h < k
-exponent h k l = elim (dec_le k h) [
+exactly : (h k : ℕ) → 2 ^ k ≤ 2 ^ h → 2 ^ h < 2 ^ suc k → h ≡ k
+exactly h k low high = elim (dec_le (suc k) h) [
   | yes y ↦ absurd (omega (arith, pow_mono y))
-  | no y ↦ omega arith
+  | no y ↦ elim (dec_le k h) [
+    | yes z ↦ omega arith
+    | no z ↦ (let l : h < k = omega arith in absurd (omega (arith, pow-lt l)))
+  ]
 ]
 
-pub growing_next : (bins places height : ℕ) → Growing bins places height → bins ≤ 4096 → places < bins
-    → Growing bins (2 * places) (height + 1)
-growing_next bins places height g l s =
-    let double : 2 ^ suc height ≡ 2 ^ height + 2 ^ height = two-pow-succ height in
-    let below : height < 12 = exponent height 12 (omega (arith, g.power)) in
-    let up : suc height ≤ 12 = omega arith in
+-- The power of two that std finds for a number of bins has the height that std finds for it, and no lower power reaches the number.
+pub fitted : {bins places height : ℕ} → IsPowerOfTwo places → bins ≤ places → places / 2 < max 1 bins
+    → 2 ^ height ≤ places → places < 2 * 2 ^ height → Fitted bins (record { places = places; height = height })
+fitted {bins} {places} {height} (h, power) enough few low high =
+    let same : h ≡ height = exactly h height (omega arith) (omega (arith, two-pow-succ height)) in
     record {
-      power = rw add-one (omega (arith, double, g.power));
-      few = omega (arith, double, g.power, pow_mono up);
-      low = omega arith;
-      least = λ k q. omega (arith, exponent height k (omega (arith, g.power)));
+      power = rw same at power;
+      enough = enough;
+      least = λ k q. elim (dec_le height k) [
+        | yes y ↦ y
+        | no n ↦ (let up : suc k ≤ height = omega arith in absurd (omega (arith, pow_mono up, two-pow-succ k, pow_pos k)))
+      ];
     }
 
 -- The least power is at most any that is enough.

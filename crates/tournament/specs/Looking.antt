@@ -1,15 +1,14 @@
 -- "One at the root, then, while it fits, one at the left half of each level": the looks that a search takes, and what its parts promise to each other.
-use Rattle.std.specs.Prelude.{◌≡◌, List, ℕ, ◌+◌, get_or}
-use Rattle.tournament.specs.declared.{Shape.Shape, Found.Found}
-use Rattle.tournament.specs.declared.Found.TheVariants.{At, Nothing}
+use Rattle.std.specs.Prelude.{◌≡◌, List, ℕ, ◌+◌, get_or, Option, Some, None}
+use Rattle.tournament.specs.declared.Shape.{Shape}
 use Rattle.tournament.specs.Trees.{leaves}
 use Rattle.tournament.specs.LowestFit.{lowest_fit}
 use Rattle.tournament.specs.Descent.{First}
 
 -- All looks of a search, by what it finds in a tree of this height.
-abbrev pub looks_of : (height : ℕ) → Found → ℕ
-looks_of height (At i) = 1 + height
-looks_of height Nothing = 1
+abbrev pub looks_of : (height : ℕ) → Option ℕ → ℕ
+looks_of height (Some i) = 1 + height
+looks_of height None = 1
 
 -- So many looks were taken before, and so many after.
 module _ (t : List ℕ) where
@@ -24,6 +23,6 @@ module _ (t : List ℕ) where
     pub counted : after ≡ before + h
 
   -- The whole search finds the lowest place with enough.
-  pub record Finds (b : ℕ) (shape : Shape) (need : ℕ) (r : Found) (after : ℕ) : Type 0 where
+  pub record Finds (b : ℕ) (shape : Shape) (need : ℕ) (r : Option ℕ) (after : ℕ) : Type 0 where
     pub lowest : r ≡ lowest_fit need (leaves t b shape.places)
     pub counted : after ≡ looks_of shape.height r

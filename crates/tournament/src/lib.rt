@@ -23,24 +23,13 @@ pub struct Shape {
     pub height: usize,
 }
 
-// What a search finds.
-#[derive(Clone, Copy)]
-pub enum Found {
-    At(usize),
-    Nothing,
-}
-
 // The least power of two not below a number of bins, and its height.
 pub fn shape_of(bins: u16) -> Shape
     requires { bins ≤ 4096 }
     ensures { Fitted bins result }
 {
-    let mut places: usize = 1;
-    let mut height: usize = 0;
-    while places < bins as usize {
-        places = 2 * places;
-        height += 1;
-    }
+    let places = (bins as usize).next_power_of_two();
+    let height = places.ilog2() as usize;
     Shape { places, height }
 }
 

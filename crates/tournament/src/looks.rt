@@ -7,7 +7,7 @@ ghost use Rattle.tournament.specs.LowestFit.{lowest_fit};
 ghost use Rattle.tournament.specs.Descent.{Descent};
 ghost use Rattle.tournament.specs.Looking.{looks_of, Looked, Descended, Finds};
 
-use crate::{Found, ROW_WORDS, Shape};
+use crate::{ROW_WORDS, Shape};
 
 // How many looks were taken.
 #[derive(Clone, Copy)]
@@ -15,13 +15,30 @@ pub struct Looks {
     count: u32,
 }
 
-// The looks where there was no search.
-pub const NONE: Looks = Looks { count: 0 };
+impl Looks {
+    // The looks where there was no search.
+    pub const NONE: Looks = Looks { count: 0 };
+
+    // The larger of two figures. (A method of its own, as `Ord::max` promises `ord_max` of a derived order, and nothing of the counts.)
+    pub fn larger(self, other: Looks) -> Looks
+        ensures { result.count ≡ max self.count other.count }
+    {
+        let count = self.count.max(other.count);
+        Looks { count }
+    }
+
+    // The figure.
+    pub fn count(self) -> u32
+        ensures { result ≡ self.count }
+    {
+        self.count
+    }
+}
 
 // What a search reports: what it has found, and the looks that it took.
 #[derive(Clone, Copy)]
 pub struct Searched {
-    pub found: Found,
+    pub found: Option<usize>,
     pub looks: Looks,
 }
 
@@ -73,7 +90,13 @@ fn descend(
 }
 
 // The lowest place that holds `need` or more: one look at the root, then, while it fits, one a level.
-fn find(t: &[u32; ROW_WORDS], base: usize, shape: Shape, need: u32, taken: &mut u32) -> Found
+fn find(
+    t: &[u32; ROW_WORDS],
+    base: usize,
+    shape: Shape,
+    need: u32,
+    taken: &mut u32,
+) -> Option<usize>
     requires tree { Tree base shape t.now }
     requires none { taken.old ≡ 0 }
     ensures { Finds t.now base shape need result taken.new }
@@ -83,12 +106,12 @@ fn find(t: &[u32; ROW_WORDS], base: usize, shape: Shape, need: u32, taken: &mut 
     let root = base + 1;
     let largest = look(t, root, taken);
     if largest < need {
-        return Found::Nothing;
+        return None;
     }
     let word = base + 2;
     let leaf = descend(t, base, 1, word, height, need, taken);
     let place = leaf - places;
-    Found::At(place)
+    Some(place)
 }
 
 // The lowest place that holds `need` or more, and the looks that it took to find it. A need of 0 is never searched for: a place without space would meet
@@ -103,18 +126,4 @@ pub fn search(t: &[u32; ROW_WORDS], base: usize, shape: Shape, need: u32) -> Sea
     let found = find(t, base, shape, need, &mut taken);
     let looks = Looks { count: taken };
     Searched { found, looks }
-}
-
-// The larger of two figures.
-pub fn larger(a: Looks, b: Looks) -> Looks
-    ensures { result.count ≡ max a.count b.count }
-{
-    if a.count < b.count { b } else { a }
-}
-
-// The figure.
-pub fn figure(looks: Looks) -> u32
-    ensures { result ≡ looks.count }
-{
-    looks.count
 }

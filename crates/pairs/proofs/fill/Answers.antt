@@ -1,4 +1,6 @@
 -- Both rows are sorted, the answers cleared, and the pairs made.
+use Rattle.std.proofs.Common.{◌≡◌, ap, ◌∙◌, ◌++◌, length, take, drop, replicate}
+use Rattle.std.proofs.Math.Seq.{length-take-le}
 use Rattle.pairs.proofs.Filling.{pictures_limits, sounds_limits, walked_answers}
 use Rattle.pairs.proofs.fill.Goals as goal
 
@@ -10,4 +12,8 @@ sort_sizes-requires-2-clause-sizes c = sounds_limits _ c.args.pictures.now _ c.a
 
 pub returns-clause-answers : goal.returns-clause-answers
 returns-clause-answers c =
-    walked_answers _ _ _ _ c.requires _ _ c.sort_sizes.ensures.sorted c.sort_sizes-2.ensures.sorted _ c.clear.ensures _ _ c.walk.ensures
+    let cleared = c.fill.ensures.after (λ y e. e) in
+    let front : length (take (length c.args.pictures.now) c.args.answers.now) ≡ length c.args.pictures.now =
+    length-take-le _ _ c.requires.words_enough in
+    walked_answers _ _ _ _ c.requires _ _ c.sort_sizes.ensures c.sort_sizes-2.ensures _
+    (ap (λ l. l ++ drop (length c.args.pictures.now) c.args.answers.now) (cleared ∙ ap (λ n. replicate n 0) front)) _ _ c.walk.ensures

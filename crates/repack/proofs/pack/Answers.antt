@@ -4,16 +4,16 @@ use Rattle.tournament.specs.Trees.{row_words}
 use Rattle.repack.proofs.Packing.{underway_start, bin_few, underway_next, underway_end}
 use Rattle.repack.proofs.pack.Goals as goal
 
-pub loop-k-init : goal.loop-k-init
-loop-k-init c = underway_start _ _ _ _ _ c.shape_of-shape.ensures c.requires.few row_words refl
+pub loop-word-init : goal.loop-word-init
+loop-word-init c = underway_start _ _ _ _ c.shape_of-shape.ensures c.requires.few row_words refl
 
 pub overflow_cast-answers : goal.overflow_cast-answers
 overflow_cast-answers c =
-    omega (arith, bin_few _ _ _ _ c.requires c.shape_of-shape.ensures c.loop-k.invariant c.loop-k-test.true c.place-bin.ensures)
+    omega (arith, bin_few _ _ _ c.requires c.shape_of-shape.ensures c.loop-word.invariant c.loop-word-test.true c.place-bin.ensures)
 
-pub loop-k-preserved : goal.loop-k-preserved
-loop-k-preserved c =
-    rw c.larger-count.ensures (underway_next _ _ _ _ c.requires c.shape_of-shape.ensures c.loop-k.invariant c.loop-k-test.true c.place-bin.ensures)
+pub loop-word-preserved : goal.loop-word-preserved
+loop-word-preserved c =
+    rw c.max-count.ensures (underway_next _ _ _ c.requires c.shape_of-shape.ensures c.loop-word.invariant c.loop-word-test.true c.place-bin.ensures)
 
 pub returns : goal.returns
-returns c = underway_end _ _ _ _ c.requires (omega (arith, c.loop-k.invariant.in_row)) c.loop-k.invariant
+returns c = underway_end _ _ _ (omega arith) c.loop-word.invariant

@@ -1,7 +1,9 @@
--- The next power of two keeps what is known of the last.
-use Rattle.std.proofs.Common.{arith}
-use Rattle.tournament.proofs.Powers.{growing_next}
+-- The power of two and its exponent are the least that do.
+use Rattle.tournament.proofs.Powers.{fitted}
 use Rattle.tournament.proofs.shape_of.Goals as goal
 
-pub loop-places-preserved : goal.loop-places-preserved
-loop-places-preserved c = growing_next _ _ _ c.loop-places.invariant c.requires (omega arith)
+pub returns : goal.returns
+returns c =
+    let places = c.next_power_of_two-places.ensures in
+    let height = c.ilog2-height.ensures in
+    fitted places.power places.lower_bound places.upper_bound height.power_le height.next_power_gt
