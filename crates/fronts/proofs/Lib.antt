@@ -1,4 +1,3 @@
--- The laws that the front rests on: a lookup in the table, row by row; an operand, byte by byte; the command that stands there.
+-- The laws that the front rests on: a lookup in the table, row by row; an operand, byte by byte.
 pub mod Lookup
 pub mod Operands
-pub mod Commands

@@ -7,12 +7,12 @@ use lib.ListN.{length, drop, get_or}
 use lib.Seq.{drop-cons}
 use borrow.Author.Tests.{eq-eqb, ne_eqb}
 use Rattle.packing.specs.declared.{WidthRow.WidthRow}
-use Rattle.packing.specs.declared.Width.TheVariants.{Known}
+use Rattle.std.specs.Prelude.{Some}
 use Rattle.packing.specs.Streams.{lookup}
 
 module _ (opcode : ℕ) (rows : List WidthRow) (i : ℕ) (d : WidthRow) where
   -- The row at i has the opcode: the answer is its width.
-  pub found : i < length rows → (get_or rows i d).opcode ≡ opcode → lookup opcode (drop i rows) ≡ Known (get_or rows i d).width
+  pub found : i < length rows → (get_or rows i d).opcode ≡ opcode → lookup opcode (drop i rows) ≡ Some (get_or rows i d).width
   unfolding lookup
   found h e = rw (drop-cons rows i d h, eq-eqb _ _ e)
 

@@ -1,23 +1,17 @@
 -- What the functions of the front answer, in the model's terms.
-use Rattle.std.specs.Prelude.{false, List, ◌≡◌, ℕ, ◌+◌, ◌^◌, ◌≤◌, ◌<◌, length, drop}
-use Rattle.packing.specs.declared.{Width.Width}
-use Rattle.packing.specs.declared.Width.TheVariants.{Known, Unknown}
+use Rattle.std.specs.Prelude.{false, List, ◌≡◌, ℕ, ◌+◌, ◌^◌, ◌≤◌, ◌<◌, length, drop, unwrap_or, Some, Result, Ok, Err}
+use Rattle.packing.specs.declared.{StreamReason.StreamReason}
 use Rattle.packing.specs.Streams as model
 use Rattle.packing.specs.Streams.{widths, lookup}
-use Rattle.fronts.specs.declared.{Front.Front, WholeCommand.WholeCommand}
-use Rattle.fronts.specs.declared.Front.TheVariants.{Whole, Faulty}
+use Rattle.fronts.specs.declared.{WholeCommand.WholeCommand}
 
 -- The width of a byte that is in the table; 0 for any other.
-abbrev pub known : Width → ℕ
-known (Known width) = width
-known Unknown = 0
-
 abbrev pub table_width : (opcode : ℕ) → ℕ
-table_width opcode = known (lookup opcode widths)
+table_width opcode = unwrap_or (lookup opcode widths) 0
 
 -- An opcode that is in the table and is no opening, and behind it so many bytes as its operands have.
 pub record CommandThere (opcode : ℕ) (s : List ℕ) : Type 0 where
-  pub in_table : lookup opcode widths ≡ Known (table_width opcode)
+  pub in_table : lookup opcode widths ≡ Some (table_width opcode)
   pub no_opening : model.is_opening opcode ≡ false
   pub inside : table_width opcode + 1 ≤ length s
 
@@ -41,6 +35,6 @@ pub record Operand (at width : ℕ) (s : List ℕ) (n : ℕ) : Type 0 where
   pub small : n < 256 ^ width
 
 -- The model's value of a front.
-abbrev pub means : Front → model.Front
-means (Whole c width) = model.whole c width
-means (Faulty reason) = model.faulty reason
+abbrev pub means : Result WholeCommand StreamReason → model.Front
+means (Ok front) = model.whole front.command front.width
+means (Err reason) = model.faulty reason

@@ -7,7 +7,7 @@ use native.Mathlib.Omega.{arith}
 use lib.ListN.{length, drop, get_or, length-append, length-drop}
 use lib.Seq.{drop-drop}
 use Rattle.packing.specs.declared.{Opening.Opening, Command.Command}
-use Rattle.packing.specs.declared.Width.TheVariants.{Known}
+use Rattle.packing.specs.Prelude.{Some}
 use Rattle.packing.specs.Limits.{most_commands}
 use Rattle.packing.specs.Streams.{is_opening, widths, lookup, command_of, names_none, whole}
 use Rattle.packing.proofs.Fronts.{front_whole}
@@ -16,7 +16,7 @@ use Rattle.fronts.specs.Fronts.{table_width}
 use Rattle.reader.specs.Items.{item_length, ItemFirst, ItemsAhead}
 
 -- The table has items.
-item_there : lookup 2 widths ≡ Known (table_width 2)
+item_there : lookup 2 widths ≡ Some (table_width 2)
 unfolding widths lookup
 item_there = refl
 
@@ -37,9 +37,6 @@ items_length n = ap (λ k. k * n) item_small
 
 pub behind_none : (s : List ℕ) → s ≡ drop (item_length * 0) s
 behind_none s = let none : 0 ≡ item_length * 0 = omega (arith, items_length 0) in ap (λ k. drop k s) none
-
-pub none_ahead : (s : List ℕ) (most : ℕ) → ItemsAhead s most 0
-none_ahead s most = record { few = omega arith; inside = omega (arith, items_length 0); each = λ i l. absurd (omega arith) }
 
 -- One more, behind those so far.
 pub one_ahead : (s : List ℕ) (most n : ℕ) → ItemsAhead s most n → n < most → (behind : List ℕ) → behind ≡ drop (item_length * n) s → item_length ≤ length behind

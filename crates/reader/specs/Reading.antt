@@ -1,8 +1,9 @@
 -- What the reader answers, in the model's terms.
-use Rattle.std.specs.Prelude.{List, ◌≡◌, ℕ, ◌≤◌, length, true}
+use Rattle.std.specs.Prelude.{List, ◌≡◌, ℕ, ◌≤◌, length, true, Result, Ok}
 use Rattle.packing.specs.Streams.{is_opening, first_byte, opening_length, Read, accepted, refused}
-use Rattle.reader.specs.declared.Summary.{Summary}
-use Rattle.reader.specs.declared.Summary.TheVariants.{Accepted, Refused}
+use Rattle.packing.specs.declared.{StreamReason.StreamReason, Refusal.Refusal}
+use Rattle.packing.specs.Refusing.{refuse}
+use Rattle.reader.specs.declared.{Accepted.Accepted}
 
 -- A whole opening stands at the front.
 pub record Opened (s : List ℕ) : Type 0 where
@@ -10,6 +11,6 @@ pub record Opened (s : List ℕ) : Type 0 where
   pub all : opening_length s ≤ length s
 
 -- What the first pass keeps of a reading: of the commands, their number.
-abbrev pub summary : Read → Summary
-summary (accepted o cs) = Accepted o (length cs)
-summary (refused reason offset) = Refused reason offset
+abbrev pub summary : Read → Result Accepted (Refusal StreamReason)
+summary (accepted o cs) = Ok (record { opening = o; commands = length cs })
+summary (refused reason offset) = refuse reason offset

@@ -7,15 +7,14 @@ ghost use Rattle.packing.specs.Streams.{first_byte, opening_length, behind_openi
 ghost use Rattle.reader.specs.Reading.{Opened, summary};
 ghost use Rattle.reader.specs.Items.{item_length, ItemsAhead};
 
-use fronts::Front;
 use limits::MOST_COMMANDS;
-use packing::{Opening, StreamReason};
+use packing::{Opening, Refusal, StreamReason};
 
-// What the first pass finds: the opening and the number of commands after it; or the first fault and its offset.
+// What the first pass keeps of a stream that it accepts: the opening, and the number of commands after it.
 #[derive(Clone, Copy)]
-pub enum Summary {
-    Accepted(Opening, usize),
-    Refused(StreamReason, usize),
+pub struct Accepted {
+    pub opening: Opening,
+    pub commands: usize,
 }
 
 // The trailer of the opening: 11 alone has one.
@@ -23,12 +22,11 @@ fn trailer_of(stream: &[u8]) -> u16
     requires { Opened stream.now }
     ensures { result ≡ (opening_of (first_byte stream.now) (drop 1 stream.now)).trailer }
 {
-    let opcode = stream[0];
-    if opcode == 0x11 {
-        let trailer = fronts::operand(stream, 8, 2);
-        return trailer as u16;
+    if stream[0] == 0x11 {
+        fronts::operand(stream, 8, 2) as u16
+    } else {
+        0
     }
-    0
 }
 
 // The opening's operands, behind its opcode.
@@ -36,111 +34,108 @@ pub fn opening_of(stream: &[u8]) -> Opening
     requires { Opened stream.now }
     ensures { result ≡ opening_of (first_byte stream.now) (drop 1 stream.now) }
 {
-    let capacity = fronts::operand(stream, 1, 4);
-    let stock = fronts::operand(stream, 5, 2) as u16;
-    let m = fronts::operand(stream, 7, 1) as u8;
-    let trailer = trailer_of(stream);
     Opening {
-        capacity,
-        stock,
-        m,
-        trailer,
+        capacity: fronts::operand(stream, 1, 4),
+        stock: fronts::operand(stream, 5, 2) as u16,
+        m: fronts::operand(stream, 7, 1) as u8,
+        trailer: trailer_of(stream),
     }
 }
 
 // What follows the opening, as a part of the stream. How long an opening is, the table tells.
+#[tactic(auto, using(crate::proofs::Openings::width_there))]
 pub fn behind_opening(stream: &[u8]) -> &[u8]
     requires { Opened stream.now }
     ensures { result.now ≡ behind_opening stream.now }
 {
-    let opcode = stream[0];
-    let width = fronts::table_width(opcode);
-    let begin = width + 1;
-    &stream[begin..]
+    let width = fronts::table_width(stream[0]);
+    &stream[width + 1..]
 }
 
 // The bytes of an item of 02, its opcode with it.
+#[tactic(auto, unfolding(packing::specs::Streams::widths, packing::specs::Streams::lookup))]
 fn item_length() -> usize
     ensures { result ≡ item_length }
 {
-    let width = fronts::table_width(2);
-    width + 1
+    fronts::table_width(2) + 1
 }
 
 // How many whole items of 02 stand at the front of a stream, one behind the other, counted up to so many. Most commands are such, and these are passed
-// without a question for the other opcodes.
+// without a question for the other opcodes. (As a chain over `chunks_exact` it was tried: the proof that the closure may be called did not close.)
 fn items_ahead(rest: &[u8], most: usize) -> usize
     ensures { ItemsAhead rest.now most result }
 {
     let used = item_length();
     let mut behind = rest;
     let mut count: usize = 0;
-    while count < most {
-        if behind.len() < used {
-            return count;
-        }
-        if behind[0] != 2 {
-            return count;
-        }
+    while count < most && used <= behind.len() && behind[0] == 2 {
         behind = &behind[used..];
         count += 1;
     }
     count
 }
 
-// Reads the commands after the opening, of which there may be 4,096; refusal 6 comes first.
-fn scan(stream: &[u8], o: Opening) -> Summary
+// Reads the commands after the opening, of which there may be 4,096; refusal 6 comes first. (With `map_err` and `?` in place of the match the proof did
+// not close: no clause names what the closure makes.)
+fn scan(stream: &[u8], opening: Opening) -> Result<Accepted, Refusal<StreamReason>>
     requires { Opened stream.now }
-    ensures { result ≡ summary (commands o most_commands (opening_length stream.now) (behind_opening stream.now)) }
+    ensures { result ≡ summary (commands opening most_commands (opening_length stream.now) (behind_opening stream.now)) }
 {
     let mut rest = behind_opening(stream);
-    let mut count: usize = 0;
-    while 0 < rest.len() {
-        if count == MOST_COMMANDS {
-            let offset = stream.len() - rest.len();
-            return Summary::Refused(StreamReason::TooManyCommands, offset);
+    let mut commands: usize = 0;
+    while !rest.is_empty() {
+        let place = stream.len() - rest.len();
+        if commands == MOST_COMMANDS {
+            return Err(Refusal {
+                reason: StreamReason::TooManyCommands,
+                place,
+            });
         }
-        let items = items_ahead(rest, MOST_COMMANDS - count);
+        let items = items_ahead(rest, MOST_COMMANDS - commands);
         if 0 < items {
-            let used = items * item_length();
-            rest = &rest[used..];
-            count += items;
+            rest = &rest[items * item_length()..];
+            commands += items;
         } else {
             match fronts::read_front(rest) {
-                Front::Faulty(reason) => {
-                    let offset = stream.len() - rest.len();
-                    return Summary::Refused(reason, offset);
+                Ok(front) => {
+                    rest = &rest[front.width + 1..];
+                    commands += 1;
                 }
-                Front::Whole(_, width) => {
-                    let used = width + 1;
-                    rest = &rest[used..];
-                    count += 1;
-                }
+                Err(reason) => return Err(Refusal { reason, place }),
             }
         }
     }
-    Summary::Accepted(o, count)
+    Ok(Accepted { opening, commands })
 }
 
 // The first pass: the verdict of the whole stream but for refusal 7. At the opening the order is 1, 3, 5.
-pub fn validate(stream: &[u8]) -> Summary
+pub fn validate(stream: &[u8]) -> Result<Accepted, Refusal<StreamReason>>
     ensures { result ≡ summary (read stream.now) }
 {
-    if stream.len() == 0 {
-        return Summary::Refused(StreamReason::NoOpening, 0);
-    }
-    let opcode = stream[0];
+    let Some(&opcode) = stream.first() else {
+        return Err(Refusal {
+            reason: StreamReason::NoOpening,
+            place: 0,
+        });
+    };
     if !fronts::is_opening(opcode) {
-        return Summary::Refused(StreamReason::NoOpening, 0);
+        return Err(Refusal {
+            reason: StreamReason::NoOpening,
+            place: 0,
+        });
     }
-    let width = fronts::table_width(opcode);
-    let behind = stream.len() - 1;
-    if behind < width {
-        return Summary::Refused(StreamReason::CutShort, 0);
+    if stream.len() - 1 < fronts::table_width(opcode) {
+        return Err(Refusal {
+            reason: StreamReason::CutShort,
+            place: 0,
+        });
     }
-    let o = opening_of(stream);
-    if limits::opening_good(o) {
-        return scan(stream, o);
+    let opening = opening_of(stream);
+    if !limits::opening_good(opening) {
+        return Err(Refusal {
+            reason: StreamReason::OutsideLimits,
+            place: 0,
+        });
     }
-    Summary::Refused(StreamReason::OutsideLimits, 0)
+    scan(stream, opening)
 }

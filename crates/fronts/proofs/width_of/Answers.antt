@@ -1,5 +1,6 @@
 -- `width_of` meets its contract: a row that has the opcode gives the answer of the rows from it on, one that has not leaves it to the rows after it.
-use Rattle.std.proofs.Common.{◌≡◌, ◌+◌, ◌-◌, refl, sym, arith, rules}
+use Rattle.std.proofs.Common.{refl, sym, ◌∙◌, rules}
+use Rattle.std.proofs.lemmas.List.{drop_all}
 use Rattle.packing.specs.declared.WidthRow.{WidthRow}
 use Rattle.packing.specs.Streams.{widths, lookup}
 use Rattle.fronts.proofs.Lookup.{found, skipped}
@@ -8,24 +9,14 @@ use Rattle.fronts.proofs.width_of.Goals as goal
 abbrev none : WidthRow
 none = record { opcode = 0; width = 0 }
 
-pub loop-i-init : goal.loop-i-init
+pub returns-then-row-opcode : goal.returns-then-row-opcode
+unfolding widths
+returns-then-row-opcode c = sym (c.loop-row.invariant ∙ found _ widths c.loop-row.row-index none c.loop-row-test.true c.if-row-opcode.true)
+
+pub loop-row-preserved : goal.loop-row-preserved
+unfolding widths
+loop-row-preserved c = c.loop-row.invariant ∙ skipped _ widths c.loop-row.row-index none c.loop-row-test.true c.if-row-opcode.false
+
+pub returns : goal.returns
 unfolding widths lookup
-loop-i-init c = (search rules, refl)
-
-pub offset_bounds-i : goal.offset_bounds-i
-unfolding widths
-offset_bounds-i c = search rules
-
-pub bounds-i-i : goal.bounds-i-i
-unfolding widths
-bounds-i-i c = search rules
-
-pub loop-i-preserved-then-row-opcode : goal.loop-i-preserved-then-row-opcode
-unfolding widths
-loop-i-preserved-then-row-opcode c = (search rules, sym (found _ widths (c.loop-i.i - 1) none (search rules) c.if-row-opcode.true))
-
-pub loop-i-preserved : goal.loop-i-preserved
-unfolding widths
-loop-i-preserved c =
-    let next : c.loop-i.i ≡ c.loop-i.i - 1 + 1 = omega arith in
-    (search rules, rw (skipped _ widths (c.loop-i.i - 1) none (search rules) c.if-row-opcode.false, ← next) c.loop-i.invariant.1)
+returns c = sym (c.loop-row.invariant ∙ rw (drop_all c.loop-row.row-index widths (search rules)) refl)

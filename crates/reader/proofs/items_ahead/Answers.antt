@@ -12,6 +12,6 @@ loop-count-preserved c =
     let here : item_length ≤ length c.loop-count.behind.now = omega arith in
     record {
       used_is = used;
-      ahead = one_ahead _ _ _ passed.ahead c.loop-count-test.true _ passed.behind_is here c.if-behind-ne2.false;
+      ahead = one_ahead _ _ _ passed.ahead c.loop-count-test.true _ passed.behind_is here c.if-behind-eq2.true;
       behind_is = rw used (part_is _ item_length here ∙ behind_one _ _ _ passed.behind_is);
     }

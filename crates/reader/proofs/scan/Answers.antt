@@ -16,10 +16,10 @@ here g = omega (arith, g.walk.place)
 pub loop-rest-init : goal.loop-rest-init
 loop-rest-init c = record { past = []; offset = _; walk = walk_start _ _ _ c.requires.all c.behind_opening-rest.ensures; number = refl }
 
-pub returns-then-count-eq-MOST_COMMANDS : goal.returns-then-count-eq-MOST_COMMANDS
-returns-then-count-eq-MOST_COMMANDS c =
+pub returns-then-commands-eq-MOST_COMMANDS : goal.returns-then-commands-eq-MOST_COMMANDS
+returns-then-commands-eq-MOST_COMMANDS c =
     let g = c.loop-rest.invariant in
-    rw (← here g) (sym (ap summary (walk_full g.walk c.loop-rest-test.true (g.number ∙ c.if-count-eq-MOST_COMMANDS.true))))
+    rw (← here g) (sym (ap summary (walk_full g.walk (grind arith) (g.number ∙ c.if-commands-eq-MOST_COMMANDS.true))))
 
 -- What the items take stands inside.
 pub loop-rest-preserved-then-items-gt0 : goal.loop-rest-preserved-then-items-gt0
@@ -36,24 +36,25 @@ loop-rest-preserved-then-items-gt0 c =
       number = omega (arith, over.number, g.number);
     }
 
-pub returns-in-Faulty : goal.returns-in-Faulty
-returns-in-Faulty c =
+pub returns-in-Err : goal.returns-in-Err
+returns-in-Err c =
     let g = c.loop-rest.invariant in
-    let more : length g.past < most_commands = omega (arith, g.number, g.walk.few, c.if-count-eq-MOST_COMMANDS.false) in
-    rw (← here g) (sym (ap summary (walk_faulty g.walk more c.loop-rest-test.true _ (sym c.in-Faulty.ensures))))
+    let more : length g.past < most_commands = omega (arith, g.number, g.walk.few, c.if-commands-eq-MOST_COMMANDS.false) in
+    rw (← here g) (sym (ap summary (walk_faulty g.walk more (grind arith) _ (sym c.in-Err.ensures))))
 
 pub loop-rest-preserved : goal.loop-rest-preserved
 loop-rest-preserved c =
     let g = c.loop-rest.invariant in
-    let more : length g.past < most_commands = omega (arith, g.number, g.walk.few, c.if-count-eq-MOST_COMMANDS.false) in
+    let front = c.in-Ok.front in
+    let more : length g.past < most_commands = omega (arith, g.number, g.walk.few, c.if-commands-eq-MOST_COMMANDS.false) in
     record {
-      past = g.past ++ c.in-Whole.field-0 ∷ [];
-      offset = g.offset + (c.in-Whole.width + 1);
-      walk = walk_on g.walk more c.in-Whole.field-0 c.in-Whole.width (sym c.in-Whole.ensures);
-      number = omega (arith, g.number, length-append g.past (c.in-Whole.field-0 ∷ []));
+      past = g.past ++ front.command ∷ [];
+      offset = g.offset + (front.width + 1);
+      walk = walk_on g.walk more front.command front.width (sym c.in-Ok.ensures);
+      number = omega (arith, g.number, length-append g.past (front.command ∷ []));
     }
 
 pub returns : goal.returns
 returns c =
     let g = c.loop-rest.invariant in
-    rw (← g.number) (sym (ap summary (walk_end g.walk c.loop-rest-test.false)))
+    rw (← g.number) (sym (ap summary (walk_end g.walk (grind arith))))

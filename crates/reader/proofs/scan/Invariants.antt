@@ -12,7 +12,7 @@ pub record Scanned (o : Opening) (stream rest : List ℕ) (count : ℕ) : Type 0
   pub number : length past ≡ count
 
 abbrev pub invariant-loop-rest : goal.invariant-loop-rest
-invariant-loop-rest l = Scanned l.o l.stream l.rest l.count
+invariant-loop-rest l = Scanned l.opening l.stream l.rest l.commands
 
 abbrev pub decreases-loop-rest : goal.decreases-loop-rest
 decreases-loop-rest l = length l.rest
