@@ -74,16 +74,8 @@ pub fn withdraw(counters: Counters) -> Counters
     requires { 1 ≤ counters.items }
     ensures { result ≡ withdrawing counters }
 {
-    let opened = counters.opened;
-    let phase = counters.phase;
     let items = counters.items - 1;
-    let b2 = counters.b2;
-    Counters {
-        opened,
-        phase,
-        items,
-        b2,
-    }
+    Counters { items, ..counters }
 }
 
 // The counters once an item is accepted that was searched for in this tree, with so many bins opened then. A B2 counts, in whichever class it lies,
@@ -113,15 +105,10 @@ pub fn accept(counters: Counters, tree: usize, opened: u32, m: u8) -> Counters
                 b2,
             }
         }
-        _ => {
-            let phase = counters.phase;
-            let b2 = counters.b2;
-            Counters {
-                opened,
-                phase,
-                items,
-                b2,
-            }
-        }
+        _ => Counters {
+            opened,
+            items,
+            ..counters
+        },
     }
 }

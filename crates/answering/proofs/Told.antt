@@ -7,10 +7,10 @@ use Rattle.packing.specs.declared.Outcome.TheVariants.{Counted}
 use Rattle.packing.specs.declared.Command.TheVariants.{Count}
 use Rattle.tournament.specs.declared.Shape.{Shape}
 use Rattle.ledger.specs.Counting.{Tallied}
-use Rattle.engine.specs.Store.{Store, Sound}
+use Rattle.engine.specs.Store.{State, Sound}
 use Rattle.engine.specs.Done.{answering, Done}
 
-pub done_count : {o : Opening} {left : ℕ} {shape : Shape} {w : Store} {number : ℕ} {t : Tally} → Sound o shape w → Tallied w.ledger o.stock t
+pub done_count : {o : Opening} {left : ℕ} {shape : Shape} {w : State} {number : ℕ} {t : Tally} → Sound o shape w → Tallied w.ledger o.stock t
     → Done o left shape w number Count (answering number (Counted t.figure)) 0 w
 done_count {o} sound m = record {
   sound = sound;

@@ -4,7 +4,6 @@ use mathlib.Core.Path.{◌≡◌, sym, ap, ◌∙◌}
 use mathlib.Core.Logic.{⊎_elim}
 use mathlib.Core.Bool.{true, false, and-false}
 use mathlib.Core.List.{List}
-use mathlib.Core.Option.{Option, none}
 use mathlib.Mathlib.Data.Bool.Basic.{dichotomy}
 use Prim.Native.Nat.{ℕ, suc, ◌+◌, ◌-◌, ◌≤◌, ◌<◌, max}
 use native.Mathlib.Omega.{arith}
@@ -14,7 +13,7 @@ use borrow.Author.Tests.{le-leb, lt-leb, lt-ltb, le-ltb, leb-true, leb-false}
 use Rattle.packing.specs.declared.Opening.{Opening}
 use Rattle.packing.specs.declared.{ItemReason.ItemReason}
 use Rattle.packing.specs.declared.ItemReason.TheVariants.{StockSpent}
-use Rattle.std.specs.Prelude.{if◌then◌else◌}
+use Rattle.std.specs.Prelude.{if◌then◌else◌, Option, Some, None}
 use Rattle.packing.specs.Prelude.{total}
 use Rattle.packing.specs.Bins.{Item, Bin, Packing, opened, load}
 use Rattle.packing.specs.Placing.{refusing, class_of, takes, bin_for, spent, decision}
@@ -22,24 +21,24 @@ use Rattle.packing.specs.Looks.{height, fits}
 use Rattle.packing.specs.Sending.{item}
 use Rattle.packing.proofs.Decided.{is_spent_lem, decides}
 use Rattle.packing.proofs.Looks.{height_unique, fits_first}
-use Rattle.tournament.specs.declared.{Shape.Shape, Found.Found}
-use Rattle.tournament.specs.declared.Found.TheVariants.{At, Nothing}
+use Rattle.tournament.specs.declared.Shape.{Shape}
 use Rattle.tournament.specs.LowestFit.{lowest_fit}
 use Rattle.tournament.specs.Looking.{looks_of}
 use Rattle.tournament.proofs.Fits.{Lowest, Meaning, meaning}
 use Rattle.aim.specs.declared.Counters.{Counters}
 use Rattle.aim.specs.Aims.{home}
-use Rattle.ledger.specs.Rows.{places, row_at, class_in, free_in}
+use Rattle.ledger.specs.declared.{Row.Row, Note.Note}
+use Rattle.ledger.specs.Rows.{places, row_at}
 use Rattle.ledger.specs.Records.{row_of}
 use Rattle.ledger.specs.Offers.{in_group, offers}
 use Rattle.ledger.proofs.Chosen.{new_bin, passed, chosen}
 use Rattle.ledger.proofs.Offering.{group_class, in_group_lem, first_none, first_there, first_at, first_row}
 use Rattle.index.specs.Trees.{shown_by, shown_at, Indexes}
 use Rattle.index.proofs.Forests.{leaf_count}
-use Rattle.engine.specs.declared.{Spot.Spot, Offer.Offer}
-use Rattle.engine.specs.declared.Offer.TheVariants.{Here, Spent}
-use Rattle.engine.specs.Store.{Store, store, Sound, Represents}
+use Rattle.engine.specs.declared.Spot.{Spot}
+use Rattle.engine.specs.Store.{State, Sound, Represents}
 use Rattle.engine.specs.Spots.{joined, anew, spot_at, spot_for}
+use Rattle.engine.proofs.States.{state_of}
 use Rattle.engine.proofs.Aimed.{Aimed, tree_few, aimed}
 
 -- A spot is the model's, for an item that is searched for in tree n.
@@ -51,7 +50,7 @@ pub record IsSpot (o : Opening) (left : ℕ) (p : Packing) (number size : ℕ) (
   pub free_is : s.free ≡ o.capacity - (size + load (chosen o p (item number size least)))
 
 module _ {o : Opening} {c : Counters} {size n : ℕ} (a : Aimed o c size n) (left number : ℕ) (least : Option ℕ)
-    {shape : Shape} {t : List ℕ} {ledger notes : List (List ℕ)} (x : Indexes shape t ledger) {p : Packing} (r : Represents o (store t ledger notes c) p) where
+    {shape : Shape} {t : List ℕ} {ledger : List Row} {notes : List Note} (x : Indexes shape t ledger) {p : Packing} (r : Represents o (state_of t ledger notes c) p) where
   abbrev it : Item
   it = item number size least
 
@@ -84,14 +83,14 @@ module _ {o : Opening} {c : Counters} {size n : ℕ} (a : Aimed o c size n) (lef
     grouped = in_group_lem n (row_at ledger i) (omega (arith, enough, a.some))
 
     space : shown_at t shape n i ≡ o.capacity - load (chosen o p it)
-    space = offer i within ∙ rw grouped (ap free_in row_is)
+    space = offer i within ∙ rw grouped (ap (λ (row : Row). row.free) row_is)
 
     is_joined : IsSpot o left p number size least n (joined o left shape t c.opened n size i)
     is_joined = record {
       in_stock = rw (found_at, le-ltb (opened p) (suc i) (omega (arith, there)));
       place_is = sym found_at;
       opened_is = omega (arith, r.bins, there, found_at);
-      class_is = sym (ap class_in row_is) ∙ group_class n (row_at ledger i) grouped;
+      class_is = sym (ap (λ (row : Row). row.class) row_is) ∙ group_class n (row_at ledger i) grouped;
       free_is = omega (arith, space);
     }
 
@@ -115,32 +114,32 @@ module _ {o : Opening} {c : Counters} {size n : ℕ} (a : Aimed o c size n) (lef
       free_is = rw chosen_new (omega arith);
     }
 
-    spends : (fault : Option ItemReason) → fault ≡ none → left ≤ c.opened → decision o p it left fault ≡ refusing StockSpent
+    spends : (fault : Option ItemReason) → fault ≡ None → left ≤ c.opened → decision o p it left fault ≡ refusing StockSpent
     spends fault faultless l =
         let all : spent o p it left ≡ true =
         rw (none_at, lt-ltb (opened p) (suc (opened p)) (omega arith), le-leb left (opened p) (omega (arith, r.bins))) in
         decides o p it left fault (refusing StockSpent) (is_spent_lem faultless a.fits all)
 
 -- What the search says of an item without a fault, by what it has for it.
-pub record Spotted (o : Opening) (left : ℕ) (shape : Shape) (w : Store) (number size : ℕ) (least : Option ℕ) (n : ℕ) (s : Spot) : Type 0 where
+pub record Spotted (o : Opening) (left : ℕ) (shape : Shape) (w : State) (number size : ℕ) (least : Option ℕ) (n : ℕ) (s : Spot) : Type 0 where
   pub inside : s.place < shape.places
   pub stock : s.opened ≤ o.stock
   pub model : (p : Packing) → Represents o w p → IsSpot o left p number size least n s
 
-abbrev pub Says : Opening → (left : ℕ) → Shape → Store → (number size : ℕ) (least : Option ℕ) (n : ℕ) → Offer → Type 0
-Says o left shape w number size least n (Here s) = Spotted o left shape w number size least n s
-Says o left shape w number size least n Spent =
-    (p : Packing) → Represents o w p → (fault : Option ItemReason) → fault ≡ none → decision o p (item number size least) left fault ≡ refusing StockSpent
+abbrev pub Says : Opening → (left : ℕ) → Shape → State → (number size : ℕ) (least : Option ℕ) (n : ℕ) → Option Spot → Type 0
+Says o left shape w number size least n (Some s) = Spotted o left shape w number size least n s
+Says o left shape w number size least n None =
+    (p : Packing) → Represents o w p → (fault : Option ItemReason) → fault ≡ None → decision o p (item number size least) left fault ≡ refusing StockSpent
 
-pub says : {o : Opening} {c : Counters} {size n : ℕ} → Aimed o c size n → (left number : ℕ) (least : Option ℕ) {shape : Shape} {t : List ℕ} {ledger notes : List (List ℕ)}
-    → left ≤ o.stock → Sound o shape (store t ledger notes c) → Says o left shape (store t ledger notes c) number size least n (spot_for o left shape t c.opened n size)
+pub says : {o : Opening} {c : Counters} {size n : ℕ} → Aimed o c size n → (left number : ℕ) (least : Option ℕ) {shape : Shape} {t : List ℕ} {ledger : List Row} {notes : List Note}
+    → left ≤ o.stock → Sound o shape (state_of t ledger notes c) → Says o left shape (state_of t ledger notes c) number size least n (spot_for o left shape t c.opened n size)
 says {o} {c} {size} {n} a left number least {shape} {t} {ledger} {notes} left_few sound = go (lowest_fit size (shown_by t shape n)) (meaning size (shown_by t shape n))
   where
-    go : (f : Found) → Meaning size (shown_by t shape n) f → Says o left shape (store t ledger notes c) number size least n (spot_at o left shape t c.opened n size f)
-    go (At i) f =
+    go : (f : Option ℕ) → Meaning size (shown_by t shape n) f → Says o left shape (state_of t ledger notes c) number size least n (spot_at o left shape t c.opened n size f)
+    go (Some i) f =
         let within : i < shape.places = omega (arith, f.inside, leaf_count sound.index.forest n (tree_few a)) in
         record { inside = within; stock = sound.within; model = λ p r. is_joined a left number least sound.index r f within }
-    go Nothing f =
+    go None f =
         let all : length (shown_by t shape n) ≡ shape.places = leaf_count sound.index.forest n (tree_few a) in
         let empty : (k : ℕ) → k < shape.places → shown_at t shape n k < size = λ k l. f k (omega arith) in
         let few : c.opened ≤ shape.places = omega (arith, sound.within, sound.fitted.enough) in
@@ -151,8 +150,8 @@ says {o} {c} {size} {n} a left number least {shape} {t} {ledger} {notes} left_fe
         (dichotomy (leb left c.opened))
 
 -- The looks that the search took, by whether a bin of the packing takes the item.
-pub looked : {o : Opening} {c : Counters} {size n : ℕ} → Aimed o c size n → (number : ℕ) (least : Option ℕ) {shape : Shape} {t : List ℕ} {ledger notes : List (List ℕ)}
-    → Sound o shape (store t ledger notes c) → (p : Packing) → Represents o (store t ledger notes c) p
+pub looked : {o : Opening} {c : Counters} {size n : ℕ} → Aimed o c size n → (number : ℕ) (least : Option ℕ) {shape : Shape} {t : List ℕ} {ledger : List Row} {notes : List Note}
+    → Sound o shape (state_of t ledger notes c) → (p : Packing) → Represents o (state_of t ledger notes c) p
     → looks_of shape.height (lowest_fit size (shown_by t shape n)) ≡ (if fits o p (item number size least) then 1 + height o.stock else 1)
 looked {o} {c} {size} {n} a number least {shape} {t} {ledger} {notes} sound p r = go (lowest_fit size (shown_by t shape n)) (meaning size (shown_by t shape n))
   where
@@ -165,11 +164,11 @@ looked {o} {c} {size} {n} a number least {shape} {t} {ledger} {notes} sound p r 
     h : shape.height ≡ height o.stock
     h = height_unique o.stock shape.height (record { enough = omega (arith, sound.fitted.enough, sound.fitted.power); least = sound.fitted.least })
 
-    go : (f : Found) → Meaning size (shown_by t shape n) f → looks_of shape.height f ≡ (if fits o p (item number size least) then 1 + height o.stock else 1)
-    go (At i) f =
+    go : (f : Option ℕ) → Meaning size (shown_by t shape n) f → looks_of shape.height f ≡ (if fits o p (item number size least) then 1 + height o.stock else 1)
+    go (Some i) f =
         let within : i < shape.places = omega (arith, f.inside, all) in
         rw (first, found_at a 0 number least sound.index r f within, lt-ltb i (opened p) (there a 0 number least sound.index r f within), h)
-    go Nothing f =
+    go None f =
         let empty : (k : ℕ) → k < shape.places → shown_at t shape n k < size = λ k l. f k (omega (arith, all)) in
         let few : c.opened ≤ shape.places = omega (arith, sound.within, sound.fitted.enough) in
         rw (first, none_at a 0 number least sound.index r empty few, le-ltb (opened p) (opened p) (omega arith))

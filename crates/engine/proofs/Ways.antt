@@ -2,8 +2,8 @@
 use mathlib.Core.Path.{◌≡◌, refl, sym, ap, ◌∙◌}
 use mathlib.Core.Logic.{◌⊎◌, inl, inr, ⊎_elim}
 use mathlib.Core.Bool.{true, false≢true}
-use mathlib.Core.List.{List, [], ◌∷◌}
-use mathlib.Core.Option.{none}
+use mathlib.Core.List.{List}
+use Rattle.std.specs.Prelude.{None}
 use Prim.Native.Nat.{ℕ, ◌+◌, ◌<◌}
 use native.Mathlib.Omega.{arith}
 use lib.ListN.{set}
@@ -21,8 +21,9 @@ use Rattle.packing.proofs.Reached.{opened_placed}
 use Rattle.tournament.specs.declared.Shape.{Shape}
 use Rattle.aim.specs.declared.Counters.{Counters}
 use Rattle.aim.specs.Aims.{home, a_for, accepting}
-use Rattle.ledger.specs.Rows.{places, row_at, class_in}
-use Rattle.ledger.specs.Notes.{numbers, note_at, bin_in, least_by}
+use Rattle.ledger.specs.declared.{Row.Row, Note.Note}
+use Rattle.ledger.specs.Rows.{places, row_at}
+use Rattle.ledger.specs.Notes.{numbers, note_at, least_by}
 use Rattle.ledger.specs.Entering.{Entered}
 use Rattle.ledger.proofs.Chosen.{free_left}
 use Rattle.ledger.proofs.Entering.{IsEntry, row_before, records_placed}
@@ -31,8 +32,9 @@ use Rattle.ledger.proofs.Noting.{noted_placed}
 use Rattle.index.specs.Shown.{Shown}
 use Rattle.index.proofs.Indexing.{indexes_set}
 use Rattle.engine.specs.declared.Spot.{Spot}
-use Rattle.engine.specs.Store.{Store, store, Sound, Represents, Ready}
+use Rattle.engine.specs.Store.{State, Sound, Represents, Ready}
 use Rattle.engine.specs.Done.{answering, Modelled, Done}
+use Rattle.engine.proofs.States.{state_of}
 use Rattle.engine.proofs.Aimed.{Aimed, phase_few, a_more, phase_after_lem}
 use Rattle.engine.proofs.Spotted.{IsSpot, Spotted}
 
@@ -62,7 +64,7 @@ pub looks_so : (o : Opening) (p : Packing) (number : ℕ) (c : Command) → shel
 looks_so o p number c shelves e = rw shelves (sym e)
 
 -- Refused: the store stays.
-pub done_refused : {o : Opening} {left : ℕ} {shape : Shape} {w : Store} {number : ℕ} {command : Command} {reason : ItemReason} {looks : ℕ} → Sound o shape w
+pub done_refused : {o : Opening} {left : ℕ} {shape : Shape} {w : State} {number : ℕ} {command : Command} {reason : ItemReason} {looks : ℕ} → Sound o shape w
     → ((p : Packing) → Represents o w p → answer_to o left p number command ≡ Refused reason) → ((p : Packing) → Represents o w p → looks ≡ looks_to o p number command)
     → Done o left shape w number command (answering number (Refused reason)) looks w
 done_refused sound m l = record {
@@ -73,20 +75,20 @@ done_refused sound m l = record {
 }
 
 -- The notes with that of an item which lies at a place.
-abbrev noting : (notes : List (List ℕ)) (number place size low : ℕ) → List (List ℕ)
-noting notes number place size low = set notes number ((place + 1) ∷ size ∷ low ∷ size ∷ [])
+abbrev noting : (notes : List Note) (number place size low : ℕ) → List Note
+noting notes number place size low = set notes number (record { bin = place + 1; size = size; least = low; greatest = size })
 
 -- Placed in a spot that is the model's: the item is entered in the ledger and noted, and then the row is shown. The command shelves it, and has no fault;
 -- the word `low` is noted for the least.
-module _ {o : Opening} {left : ℕ} {k : Counters} {n : ℕ} (c : Command) (shelves : shelves_item c ≡ true) (faultless : fault c ≡ none) {size : ℕ} (sized : size ≡ stored o (size_of c)) (a : Aimed o k size n) (low : ℕ)
-    (told : least_by low ≡ least_of o c) {s : Spot} {shape : Shape} {t u : List ℕ} {ledger ledger' notes : List (List ℕ)} {row : List ℕ}
+module _ {o : Opening} {left : ℕ} {k : Counters} {n : ℕ} (c : Command) (shelves : shelves_item c ≡ true) (faultless : fault c ≡ None) {size : ℕ} (sized : size ≡ stored o (size_of c)) (a : Aimed o k size n) (low : ℕ)
+    (told : least_by low ≡ least_of o c) {s : Spot} {shape : Shape} {t u : List ℕ} {ledger ledger' : List Row} {notes : List Note} {row : Row}
     (e : Entered ledger s.place (home n) s.free (a_for n) row ledger') (d : Shown shape t s.place row u) (inside : s.place < places) (number looks : ℕ) where
-  module _ {p : Packing} (r : Represents o (store t ledger notes k) p) (m : IsSpot o left p number size (least_of o c) n s) where
+  module _ {p : Packing} (r : Represents o (state_of t ledger notes k) p) (m : IsSpot o left p number size (least_of o c) n s) where
     entry : IsEntry o p (item number size (least_of o c)) s.place (home n) s.free (a_for n)
     entry = record { whole = refl; fits = a.fits; place_is = m.place_is; class_is = sym m.class_is; free_is = m.free_is; a_is = a_more a number (least_of o c) }
 
-    modelled : number < numbers → bin_in (note_at notes number) ≡ 0 → looks ≡ looks_to o p number c
-        → Modelled o left number c (Placed (s.place + 1) s.free) looks (store u ledger' (noting notes number s.place size low) (accepting n s.opened o.m k)) p
+    modelled : number < numbers → (note_at notes number).bin ≡ 0 → looks ≡ looks_to o p number c
+        → Modelled o left number c (Placed (s.place + 1) s.free) looks (state_of u ledger' (noting notes number s.place size low) (accepting n s.opened o.m k)) p
     modelled numbered new looked =
         let i = item number size (least_of o c) in
         let it : item_of o number c ≡ i = ap (λ size. item number size (least_of o c)) (sym sized) in
@@ -110,15 +112,15 @@ module _ {o : Opening} {left : ℕ} {k : Counters} {n : ℕ} (c : Command) (shel
         }
 
     -- The place had no bin, or one of this class.
-    class_before : (class_in (row_at ledger s.place) ≡ 0) ⊎ (class_in (row_at ledger s.place) ≡ class_in row)
+    class_before : ((row_at ledger s.place).class ≡ 0) ⊎ ((row_at ledger s.place).class ≡ row.class)
     class_before =
-        let new : class_in row ≡ home n = ap class_in e.row_is in
+        let new : row.class ≡ home n = ap (λ (row : Row). row.class) e.row_is in
         ⊎_elim inl (λ same. inr (same ∙ m.class_is ∙ sym new)) (row_before r.records inside entry).class
 
-  pub done_placed : Ready o left shape number (store t ledger notes k) → Spotted o left shape (store t ledger notes k) number size (least_of o c) n s
-      → ((p : Packing) → Represents o (store t ledger notes k) p → looks ≡ looks_to o p number c)
-      → Done o left shape (store t ledger notes k) number c (answering number (Placed (s.place + 1) s.free)) looks
-      (store u ledger' (noting notes number s.place size low) (accepting n s.opened o.m k))
+  pub done_placed : Ready o left shape number (state_of t ledger notes k) → Spotted o left shape (state_of t ledger notes k) number size (least_of o c) n s
+      → ((p : Packing) → Represents o (state_of t ledger notes k) p → looks ≡ looks_to o p number c)
+      → Done o left shape (state_of t ledger notes k) number c (answering number (Placed (s.place + 1) s.free)) looks
+      (state_of u ledger' (noting notes number s.place size low) (accepting n s.opened o.m k))
   done_placed ready w looked =
       let sound = ready.sound in
       let then = sound.represents in

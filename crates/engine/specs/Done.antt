@@ -1,4 +1,4 @@
--- What a step promises: at every packing that the store represents, the model's answer, the model's looks and the model's next packing, with so much of the
+-- What a step promises: at every packing that the state represents, the model's answer, the model's looks and the model's next packing, with so much of the
 -- stock left for it.
 use Rattle.std.specs.Prelude.{◌≡◌, ℕ}
 use Rattle.packing.specs.declared.{Opening.Opening, Command.Command, Outcome.Outcome, Answer.Answer, ItemReason.ItemReason}
@@ -9,7 +9,7 @@ use Rattle.tournament.specs.declared.Shape.{Shape}
 use Rattle.tournament.specs.declared.looks.Looks.{Looks}
 use Rattle.aim.specs.declared.Counters.{Counters}
 use Rattle.engine.specs.declared.Answered.{Answered}
-use Rattle.engine.specs.Store.{Store, Sound, Represents}
+use Rattle.engine.specs.Store.{State, Sound, Represents}
 
 -- "An answer joins the command's number with placed, counted or refused", or withdrawn, switched or settled.
 abbrev pub answering : ℕ → Outcome → Answer
@@ -23,13 +23,13 @@ giving number a c taken = record { answer = answering number a; next = c; looks 
 abbrev pub none : Looks
 none = record { count = 0 }
 
-pub record Modelled (o : Opening) (left number : ℕ) (command : Command) (a : Outcome) (looks : ℕ) (u : Store) (p : Packing) : Type 0 where
+pub record Modelled (o : Opening) (left number : ℕ) (command : Command) (a : Outcome) (looks : ℕ) (u : State) (p : Packing) : Type 0 where
   pub answered : a ≡ answer_to o left p number command
   pub looked : looks ≡ looks_to o p number command
   pub represents : Represents o u (next o left p number command)
 
--- From the store s, the command of this number is answered so, takes so many looks and leaves the store u.
-pub record Done (o : Opening) (left : ℕ) (shape : Shape) (s : Store) (number : ℕ) (command : Command) (r : Answer) (looks : ℕ) (u : Store) : Type 0 where
+-- From the state s, the command of this number is answered so, takes so many looks and leaves the state u.
+pub record Done (o : Opening) (left : ℕ) (shape : Shape) (s : State) (number : ℕ) (command : Command) (r : Answer) (looks : ℕ) (u : State) : Type 0 where
   pub sound : Sound o shape u
   pub numbered : r.number ≡ number
   pub model : (p : Packing) → Represents o s p → Modelled o left number command r.outcome looks u p

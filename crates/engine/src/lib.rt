@@ -1,5 +1,5 @@
 // The engine: the placing step. It finds a bin by the trees, enters the item in the ledger, notes where it lies, and shows the bin's row of the ledger
-// in the trees, which are an index over it. Trees, ledger and notes are lent by the caller; what is small goes by value. Of productions the step knows
+// in the trees, which are an index over it. Store and ledger are lent by the caller; what is small goes by value. Of productions the step knows
 // nothing: the caller tells it what is left of the stock for this one.
 #![tactic(auto)]
 
@@ -7,15 +7,15 @@ ghost use Rattle.std.specs.Prelude.{◌≡◌, true, ◌-◌, ◌≤◌, ◌<◌
 ghost use Rattle.packing.specs.declared.Outcome.TheVariants.{Refused};
 ghost use Rattle.packing.specs.Sending.{shelves_item};
 ghost use Rattle.index.specs.Trees.{Forest};
-ghost use Rattle.engine.specs.Store.{store, Ready, Placeable};
+ghost use Rattle.engine.specs.Store.{state, blank_store, Ready, Placeable};
 ghost use Rattle.engine.specs.Spots.{Offers};
 ghost use Rattle.engine.specs.Done.{giving, Done};
 
 use aim::Counters;
-use ledger::{BINS, COLUMNS, NOTE_WORDS, NUMBERS};
+use ledger::{BINS, NUMBERS, Note, Row, UNNOTED};
 use packing::{Answer, Command, ItemReason, Opening, Outcome};
 use tournament::looks::Looks;
-use tournament::{Found, ROW_WORDS, STRIDE, Shape, looks};
+use tournament::{ROW_WORDS, STRIDE, Shape};
 
 // What the commands of a production are answered by: the opening, the shape of the trees, and what is left of the stock for the production.
 #[derive(Clone, Copy)]
@@ -23,6 +23,26 @@ pub struct Terms {
     pub opening: Opening,
     pub shape: Shape,
     pub left: u32,
+}
+
+// What the engine keeps for itself of a production's items between two commands: the trees, which are an index over the ledger, and the notes. (The ledger is
+// no field: it is the caller's, who reads it after the last command. The counters go by value: aim::Counters. Nothing copies a store.)
+#[derive(Drop)]
+pub struct Store {
+    pub trees: [u32; ROW_WORDS],
+    pub notes: [Note; NUMBERS],
+}
+
+impl Store {
+    // The store before the first command.
+    pub fn blank() -> Self
+        ensures { result ≡ blank_store }
+    {
+        Self {
+            trees: [0; ROW_WORDS],
+            notes: [UNNOTED; NUMBERS],
+        }
+    }
 }
 
 // What a command comes to, the counters after it, and the looks that it took.
@@ -41,17 +61,10 @@ struct Spot {
     opened: u32,
 }
 
-// What the search has for an item: a spot, or none, as what is left of the stock for its production is all opened.
-#[derive(Clone, Copy)]
-enum Offer {
-    Here(Spot),
-    Spent,
-}
-
-// That, and the looks of the search.
+// What the search has for an item: a spot, or none, as what is left of the stock for its production is all opened. And the looks of the search.
 #[derive(Clone, Copy)]
 struct Offered {
-    offer: Offer,
+    spot: Option<Spot>,
     looks: Looks,
 }
 
@@ -66,34 +79,26 @@ fn find_spot(trees: &[u32; ROW_WORDS], terms: Terms, opened: u32, tree: usize, s
     let shape = terms.shape;
     let base = STRIDE * tree;
     let searched = tournament::search(trees, base, shape, size);
-    let found = searched.found;
-    let looks = searched.looks;
-    match found {
-        Found::At(place) => {
+    let spot = match searched.found {
+        Some(place) => {
             let space = tournament::value(trees, base, shape, place);
             let free = space - size;
-            let offer = Offer::Here(Spot {
+            Some(Spot {
                 place,
                 free,
                 opened,
-            });
-            Offered { offer, looks }
+            })
         }
-        Found::Nothing => {
-            if terms.left <= opened {
-                let offer = Offer::Spent;
-                return Offered { offer, looks };
-            }
-            let place = opened as usize;
-            let free = terms.opening.capacity - size;
-            let opened = opened + 1;
-            let offer = Offer::Here(Spot {
-                place,
-                free,
-                opened,
-            });
-            Offered { offer, looks }
-        }
+        None if terms.left <= opened => None,
+        None => Some(Spot {
+            place: opened as usize,
+            free: terms.opening.capacity - size,
+            opened: opened + 1,
+        }),
+    };
+    Offered {
+        spot,
+        looks: searched.looks,
     }
 }
 
@@ -119,25 +124,23 @@ pub fn refuse(number: usize, reason: ItemReason, counters: Counters, looks: Look
 // An item without a fault that a bin can hold with its trailer: to the first permitted bin with space, else to a new one, else refused. All goes by the
 // stored size; of 06 it is the greatest, and the least is noted too.
 fn place_fitting(
-    trees: &mut [u32; ROW_WORDS],
-    ledger: &mut [[u32; COLUMNS]; BINS],
-    notes: &mut [[u32; NOTE_WORDS]; NUMBERS],
+    store: &mut Store,
+    ledger: &mut [Row; BINS],
     terms: Terms,
     counters: Counters,
     number: usize,
     command: Command,
 ) -> Answered
-    requires { Placeable terms.opening terms.left terms.shape number command (store trees.old ledger.old notes.old counters) }
-    ensures { Done terms.opening terms.left terms.shape (store trees.old ledger.old notes.old counters) number command result.answer result.looks.count (store trees.new ledger.new notes.new result.next) }
+    requires { Placeable terms.opening terms.left terms.shape number command (state store.old ledger.old counters) }
+    ensures { Done terms.opening terms.left terms.shape (state store.old ledger.old counters) number command result.answer result.looks.count (state store.new ledger.new result.next) }
 {
     let opening = terms.opening;
     let size = sending::size_of(command);
     let stored = size + opening.trailer as u32;
     let tree = aim::tree_for(stored, opening.capacity, counters.b2);
-    let offered = find_spot(trees, terms, counters.opened, tree, stored);
-    let offer = offered.offer;
+    let offered = find_spot(&store.trees, terms, counters.opened, tree, stored);
     let looks = offered.looks;
-    let Offer::Here(spot) = offer else {
+    let Some(spot) = offered.spot else {
         return refuse(number, ItemReason::StockSpent, counters, looks);
     };
     let class = aim::home_of(tree) as u32;
@@ -150,10 +153,15 @@ fn place_fitting(
     let row = ledger::enter(ledger, place, class, free, a);
     let lies = bin as u32;
     let least = sending::least_word(opening, command);
-    let note = [lies, stored, least, stored];
-    notes[number] = note;
+    let note = Note {
+        bin: lies,
+        size: stored,
+        least,
+        greatest: stored,
+    };
+    store.notes[number] = note;
     // Last: how far a store climbs is not foreseen by the processor, and nothing but the next command is to wait for it.
-    index::show(trees, terms.shape, place, row);
+    index::show(&mut store.trees, terms.shape, place, row);
     give(number, outcome, next, looks)
 }
 
@@ -173,25 +181,23 @@ fn largest(opening: Opening) -> u32
 // "Where a master goes": Refined First-Fit, one item, of 02 or 06. One test tells that it has no fault and that its stored size, which may be more than 32
 // bits hold, is not above the capacity; which of the two it is, is asked only where the test fails.
 pub fn place(
-    trees: &mut [u32; ROW_WORDS],
-    ledger: &mut [[u32; COLUMNS]; BINS],
-    notes: &mut [[u32; NOTE_WORDS]; NUMBERS],
+    store: &mut Store,
+    ledger: &mut [Row; BINS],
     terms: Terms,
     counters: Counters,
     number: usize,
     command: Command,
 ) -> Answered
-    requires ready { Ready terms.opening terms.left terms.shape number (store trees.old ledger.old notes.old counters) }
+    requires ready { Ready terms.opening terms.left terms.shape number (state store.old ledger.old counters) }
     requires sends { shelves_item command ≡ true }
-    ensures { Done terms.opening terms.left terms.shape (store trees.old ledger.old notes.old counters) number command result.answer result.looks.count (store trees.new ledger.new notes.new result.next) }
+    ensures { Done terms.opening terms.left terms.shape (state store.old ledger.old counters) number command result.answer result.looks.count (state store.new ledger.new result.next) }
 {
     let most = largest(terms.opening);
     if sending::may_fit(command, most) {
-        return place_fitting(trees, ledger, notes, terms, counters, number, command);
+        return place_fitting(store, ledger, terms, counters, number, command);
     }
-    if sending::faultless(command) {
-        return refuse(number, ItemReason::AboveCapacity, counters, looks::NONE);
+    if let Some(reason) = sending::fault(command) {
+        return refuse(number, reason, counters, Looks::NONE);
     }
-    let reason = sending::fault_of(command);
-    refuse(number, reason, counters, looks::NONE)
+    refuse(number, ItemReason::AboveCapacity, counters, Looks::NONE)
 }

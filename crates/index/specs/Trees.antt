@@ -2,6 +2,7 @@
 use Rattle.std.specs.Prelude.{◌≡◌, List, ℕ, ◌*◌, ◌≤◌, ◌<◌, get_or}
 use Rattle.tournament.specs.declared.Shape.{Shape}
 use Rattle.tournament.specs.Trees.{stride, leaves, Tree}
+use Rattle.ledger.specs.declared.Row.{Row}
 use Rattle.ledger.specs.Rows.{row_at}
 use Rattle.ledger.specs.Offers.{offers}
 
@@ -22,6 +23,6 @@ pub record Forest (shape : Shape) (trees : List ℕ) : Type 0 where
   pub tree : (n : ℕ) → n < 5 → Tree (base n) shape trees
 
 -- The trees as an index: place i of tree n shows what row i of the ledger offers in group n, by the row alone.
-pub record Indexes (shape : Shape) (trees : List ℕ) (ledger : List (List ℕ)) : Type 0 where
+pub record Indexes (shape : Shape) (trees : List ℕ) (ledger : List Row) : Type 0 where
   pub forest : Forest shape trees
   pub leaf : (n i : ℕ) → n < 5 → i < shape.places → shown_at trees shape n i ≡ offers n (row_at ledger i)

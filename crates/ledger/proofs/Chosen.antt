@@ -14,7 +14,8 @@ use Rattle.packing.specs.Prelude.{total, keep}
 use Rattle.packing.specs.Bins.{Item, Bin, Packing, load, free_on, add}
 use Rattle.packing.specs.Placing.{class_of, first_fit, put, target, takes, bin_for, placed}
 use Rattle.packing.proofs.Putting.{fresh}
-use Rattle.ledger.specs.Rows.{blank, class_in, held_in, held_a_in}
+use Rattle.ledger.specs.declared.Row.{Row}
+use Rattle.ledger.specs.Rows.{blank}
 use Rattle.ledger.specs.Records.{held_a, row_of}
 
 -- The bin that would be opened for an item, how many bins first fit passes, and the bin that the item then goes to.
@@ -44,10 +45,10 @@ unfolding placed total
 free_left o p i = rw (put_at (λ b. b.items) [] (takes o p i) (new_bin o p i) i p.bins (passed o p i), eq-eqb (passed o p i) (passed o p i) refl)
 
 -- A row before an item goes to a bin: the bin's own, or that of no bin, where the bin is new and empty.
-pub record Before (o : Opening) (row : List ℕ) (b : Bin) : Type 0 where
-  pub class : (class_in row ≡ 0) ⊎ (class_in row ≡ b.class)
-  pub held : held_in row ≡ length b.items
-  pub a_held : held_a_in row ≡ held_a o b
+pub record Before (o : Opening) (row : Row) (b : Bin) : Type 0 where
+  pub class : (row.class ≡ 0) ⊎ (row.class ≡ b.class)
+  pub held : row.held ≡ length b.items
+  pub a_held : row.held_a ≡ held_a o b
 
 pub before : (o : Opening) (class : ℕ) (bins : List Bin) (i : ℕ) → Before o (get_or (map (row_of o) bins) i blank) (get_or bins i (fresh class))
 unfolding keep

@@ -12,12 +12,13 @@ use Rattle.packing.specs.Placing.{class_of, target, takes, placed}
 use Rattle.packing.specs.Settling.{settling}
 use Rattle.packing.proofs.Weights.{keep_few, weight_ones, put_weight}
 use Rattle.packing.proofs.Settling.{settled_weight}
-use Rattle.ledger.specs.Rows.{places, blank, row_at, held_in, held_a_in}
+use Rattle.ledger.specs.declared.Row.{Row}
+use Rattle.ledger.specs.Rows.{places, blank, row_at}
 use Rattle.ledger.specs.Records.{row_of, items_held, Records}
 
-pub record FewIn (row : List ℕ) (most : ℕ) : Type 0 where
-  pub held : held_in row ≤ most
-  pub a_held : held_a_in row ≤ most
+pub record FewIn (row : Row) (most : ℕ) : Type 0 where
+  pub held : row.held ≤ most
+  pub a_held : row.held_a ≤ most
 
 few_at : (o : Opening) (bins : List Bin) (i : ℕ) → FewIn (get_or (map (row_of o) bins) i blank) (total (map (λ b. length b.items) bins))
 unfolding total
@@ -25,7 +26,7 @@ few_at o [] i = record { held = omega arith; a_held = omega arith }
 few_at o (b ∷ bs) zero = record { held = omega arith; a_held = omega (arith, keep_few (λ j. is_a (kind o j)) b.items) }
 few_at o (b ∷ bs) (suc i) = let further = few_at o bs i in record { held = omega (arith, further.held); a_held = omega (arith, further.a_held) }
 
-pub few_held : {o : Opening} {ledger : List (List ℕ)} {p : Packing} → Records o ledger p → (place : ℕ) → place < places → FewIn (row_at ledger place) (items_held p)
+pub few_held : {o : Opening} {ledger : List Row} {p : Packing} → Records o ledger p → (place : ℕ) → place < places → FewIn (row_at ledger place) (items_held p)
 few_held {o = o} {p = p} k place l = rw (k.row place l) (few_at o p.bins place)
 
 pub held_placed : (o : Opening) (p : Packing) (i : Item) → items_held (placed o p i) ≡ items_held p + 1

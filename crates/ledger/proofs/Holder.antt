@@ -12,8 +12,9 @@ use Rattle.packing.specs.Bins.{Item, Bin, Packing, free_on}
 use Rattle.packing.specs.Claims.{SoundBin}
 use Rattle.packing.specs.Withdrawing.{is_named}
 use Rattle.packing.proofs.Putting.{fresh}
-use Rattle.ledger.specs.Rows.{places, blank, row_at, free_in}
-use Rattle.ledger.specs.Notes.{note_at, bin_in, noted_item, Noted}
+use Rattle.ledger.specs.declared.{Row.Row, Note.Note}
+use Rattle.ledger.specs.Rows.{places, blank, row_at}
+use Rattle.ledger.specs.Notes.{note_at, noted_item, Noted}
 use Rattle.ledger.specs.Records.{row_of, Records}
 use Rattle.ledger.proofs.Offering.{bin_row}
 use Rattle.ledger.proofs.Noting.{lies_there, lies_nowhere_else, present}
@@ -51,8 +52,8 @@ module _ (f : Bin → Bin) where
   untouched_at o number stays (b ∷ bs) zero e = ap (row_of o) (stays b e)
   untouched_at o number stays (b ∷ bs) (suc j) e = untouched_at o number stays bs j e
 
-module _ {o : Opening} {ledger notes : List (List ℕ)} {p : Packing} (k : Records o ledger p) (t : Noted notes p) (number place : ℕ)
-    (there : bin_in (note_at notes number) ≡ suc place) (inside : place < places) where
+module _ {o : Opening} {ledger : List Row} {notes : List Note} {p : Packing} (k : Records o ledger p) (t : Noted notes p) (number place : ℕ)
+    (there : (note_at notes number).bin ≡ suc place) (inside : place < places) where
   here : place < length p.bins
   here = (present number t place there).there
 
@@ -67,23 +68,23 @@ module _ {o : Opening} {ledger notes : List (List ℕ)} {p : Packing} (k : Recor
   holder_sound = each_there (SoundBin o) (fresh 0) p.bins place here k.sound
 
   -- The bins are made others by what leaves each alone that does not hold the item, and the new row of the one that does is written.
-  module _ (f : Bin → Bin) (stays : (b : Bin) → keep (is_named number) b.items ≡ [] → f b ≡ b) (q : Packing) (made : q.bins ≡ map f p.bins) {row : List ℕ}
+  module _ (f : Bin → Bin) (stays : (b : Bin) → keep (is_named number) b.items ≡ [] → f b ≡ b) (q : Packing) (made : q.bins ≡ map f p.bins) {row : Row}
       (own : row ≡ row_of o (f (bin_at p place))) where
-    pub free_made : free_in row ≡ free_on o (suc place) q
+    pub free_made : row.free ≡ free_on o (suc place) q
     free_made =
-        ap free_in own
+        ap (λ (row : Row). row.free) own
         ∙ ap (λ (items : List Item). o.capacity - total (map (λ i. i.size) items))
         (sym (ap (λ (bins : List Bin). get_or (map (λ b. b.items) bins) place []) made ∙ items_made f (fresh 0) p.bins place here))
 
-    pub records_made : {ledger' : List (List ℕ)} → ledger' ≡ set ledger place row → ((b : Bin) → Memᴰ b q.bins → SoundBin o b) → Records o ledger' q
+    pub records_made : {ledger' : List Row} → ledger' ≡ set ledger place row → ((b : Bin) → Memᴰ b q.bins → SoundBin o b) → Records o ledger' q
     records_made written sound = record {
       whole = ap length written ∙ length-set ledger place row ∙ k.whole;
-      row = λ j l. ap (λ (rows : List (List ℕ)). row_at rows j) written ∙ then j l ∙ sym (ap (λ (bins : List Bin). get_or (map (row_of o) bins) j blank) made);
+      row = λ j l. ap (λ (rows : List Row). row_at rows j) written ∙ then j l ∙ sym (ap (λ (bins : List Bin). get_or (map (row_of o) bins) j blank) made);
       sound = sound;
     }
       where
         then : (j : ℕ) → j < places → row_at (set ledger place row) j ≡ get_or (map (row_of o) (map f p.bins)) j blank
         then j l = elim (ℕ_discrete j place) [
-          | yes q ↦ rw q (get_or-set_same ledger place row [] (omega (arith, k.whole)) ∙ own ∙ sym (made_at f o (fresh 0) p.bins place here))
-          | no q ↦ get_or-set_other ledger place j row [] q ∙ k.row j l ∙ sym (untouched_at f o number stays p.bins j (lies_nowhere_else number t place there j q))
+          | yes q ↦ rw q (get_or-set_same ledger place row blank (omega (arith, k.whole)) ∙ own ∙ sym (made_at f o (fresh 0) p.bins place here))
+          | no q ↦ get_or-set_other ledger place j row blank q ∙ k.row j l ∙ sym (untouched_at f o number stays p.bins j (lies_nowhere_else number t place there j q))
         ]

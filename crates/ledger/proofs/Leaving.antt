@@ -13,11 +13,12 @@ use Rattle.packing.proofs.Tests.{clash}
 use Rattle.packing.proofs.Keeping.{keep_others}
 use Rattle.packing.proofs.Weights.{total_split, total_ones, one_for, total_passing}
 use Rattle.packing.proofs.Reached.{sound_without}
-use Rattle.ledger.specs.Rows.{places, row_at, class_in, free_in, held_in, held_a_in}
-use Rattle.ledger.specs.Notes.{note_at, bin_in, noted_item, Noted}
+use Rattle.ledger.specs.declared.{Row.Row, Note.Note}
+use Rattle.ledger.specs.Rows.{places, row_at}
+use Rattle.ledger.specs.Notes.{note_at, noted_item, Noted}
 use Rattle.ledger.specs.Records.{held_a, row_of, items_held, Records}
 use Rattle.ledger.specs.Leaving.{leaving, Leavable, HasLeft}
-use Rattle.ledger.proofs.Entering.{one_a, four}
+use Rattle.ledger.proofs.Entering.{one_a, same_row}
 use Rattle.ledger.proofs.Noting.{lies_there, lies_nowhere_else}
 use Rattle.ledger.proofs.Holder.{bin_at, holds_one, holder_row, holder_sound, free_made, records_made}
 
@@ -37,7 +38,7 @@ module _ (number : ℕ) where
         omega (arith, weight_less (one_for a), total_passing a b.items, total_passing a (emptied_of number b).items)
 
     row_less : (o : Opening) → load b ≤ o.capacity → leaving i.size (one_a o i) (row_of o b) ≡ row_of o (emptied_of number b)
-    row_less o h = four refl (omega (arith, weight_less (λ j. j.size))) (omega (arith, held_less)) (omega (arith, held_a_less o))
+    row_less o h = same_row refl (omega (arith, weight_less (λ j. j.size))) (omega (arith, held_less)) (omega (arith, held_a_less o))
 
   -- A bin that holds none of it is the same without it.
   same_without : (b : Bin) → keep (is_named number) b.items ≡ [] → emptied_of number b ≡ b
@@ -63,8 +64,8 @@ module _ (number : ℕ) where
         held_one bs place i e (λ j z. h (suc j) (λ q. z (omega (arith, q)))),
       )
 
-module _ {o : Opening} {ledger notes : List (List ℕ)} {p : Packing} (k : Records o ledger p) (t : Noted notes p) (number place : ℕ)
-    (there : bin_in (note_at notes number) ≡ suc place) (inside : place < places) where
+module _ {o : Opening} {ledger : List Row} {notes : List Note} {p : Packing} (k : Records o ledger p) (t : Noted notes p) (number place : ℕ)
+    (there : (note_at notes number).bin ≡ suc place) (inside : place < places) where
   -- The bin, and the item that it holds.
   abbrev left : Bin
   left = bin_at p place
@@ -84,9 +85,9 @@ module _ {o : Opening} {ledger notes : List (List ℕ)} {p : Packing} (k : Recor
   pub can_leave : o.capacity ≤ 16_777_216 → Leavable ledger place taken.size (one_a o taken)
   can_leave most = record {
     inside = inside;
-    room = omega (arith, ap free_in row_there, weight_less number left taken one (λ j. j.size), few);
-    some = omega (arith, ap held_in row_there, held_less number left taken one);
-    some_a = omega (arith, ap held_a_in row_there, held_a_less number left taken one o);
+    room = omega (arith, ap (λ (row : Row). row.free) row_there, weight_less number left taken one (λ j. j.size), few);
+    some = omega (arith, ap (λ (row : Row). row.held) row_there, held_less number left taken one);
+    some_a = omega (arith, ap (λ (row : Row). row.held_a) row_there, held_a_less number left taken one o);
   }
 
   -- One item less is held.
@@ -94,21 +95,21 @@ module _ {o : Opening} {ledger notes : List (List ℕ)} {p : Packing} (k : Recor
   unfolding without
   held_without = held_one number p.bins place taken (lies_there number t place there) (lies_nowhere_else number t place there)
 
-  module _ {row : List ℕ} {ledger' : List (List ℕ)} (d : HasLeft ledger place taken.size (one_a o taken) row ledger') where
+  module _ {row : Row} {ledger' : List Row} (d : HasLeft ledger place taken.size (one_a o taken) row ledger') where
     row_left : row ≡ row_of o (emptied_of number left)
     row_left = d.row_is ∙ ap (leaving taken.size (one_a o taken)) row_there ∙ row_less number left taken one o few
 
     -- The bin keeps its class, which is one of the four.
-    pub class_kept : class_in (row_at ledger place) ≡ class_in row
-    class_kept = sym (ap class_in d.row_is)
+    pub class_kept : (row_at ledger place).class ≡ row.class
+    class_kept = sym (ap (λ (row : Row). row.class) d.row_is)
 
-    pub class_good : (1 ≤ class_in row) × (class_in row < 5)
+    pub class_good : (1 ≤ row.class) × (row.class < 5)
     class_good =
         let sound = holder_sound k t number place there inside in
-        omega (arith, ap class_in row_left, sound.from_class_1, sound.to_class_4)
+        omega (arith, ap (λ (row : Row). row.class) row_left, sound.from_class_1, sound.to_class_4)
 
     -- What is then free on it.
-    pub free_then : free_in row ≡ free_on o (suc place) (without number p)
+    pub free_then : row.free ≡ free_on o (suc place) (without number p)
     unfolding without
     free_then = free_made k t number place there inside (emptied_of number) (same_without number) (without number p) refl row_left
 

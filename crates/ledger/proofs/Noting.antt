@@ -3,7 +3,7 @@
 use mathlib.Core.Path.{◌≡◌, refl, sym, ap, ◌∙◌}
 use mathlib.Core.Bool.{Bool, true, false, not, ◌&&◌, and_self, or-false, true≢false}
 use mathlib.Core.List.{List, [], ◌∷◌, map}
-use mathlib.Core.Option.{Option, some}
+use Rattle.std.specs.Prelude.{Option, Some}
 use Prim.Native.Nat.{ℕ, zero, suc, ◌≤◌, ◌<◌}
 use native.Mathlib.Decide.{ℕ_discrete}
 use native.Mathlib.Omega.{arith}
@@ -22,7 +22,8 @@ use Rattle.packing.proofs.Tests.{clash}
 use Rattle.packing.proofs.Searching.{any_stays}
 use Rattle.packing.proofs.Keeping.{keep_within, keep_apart}
 use Rattle.packing.proofs.Holding.{grown, placed_items, without_items}
-use Rattle.ledger.specs.Notes.{numbers, unnoted, note_at, bin_in, least_by, noted_item, Noted}
+use Rattle.ledger.specs.declared.Note.{Note}
+use Rattle.ledger.specs.Notes.{numbers, unnoted, note_at, least_by, noted_item, Noted}
 use Rattle.ledger.proofs.Offering.{any_keep}
 
 module _ (number : ℕ) where
@@ -62,25 +63,25 @@ module _ (number : ℕ) where
       let further = first_holds i bs place h (λ j l. lower (suc j) (omega arith)) in
       record { some = rw here further.some; first = rw here (ap suc further.first); there = omega (arith, further.there) }
 
-  module _ {notes : List (List ℕ)} {p : Packing} (k : Noted notes p) where
+  module _ {notes : List Note} {p : Packing} (k : Noted notes p) where
     -- A number past the notes.
-    pub past_notes : numbers ≤ number → bin_in (note_at notes number) ≡ 0
-    past_notes l = ap bin_in (get_or-eq_default notes [] (omega (arith, k.whole)))
+    pub past_notes : numbers ≤ number → (note_at notes number).bin ≡ 0
+    past_notes l = ap (λ (note : Note). note.bin) (get_or-eq_default notes unnoted (omega (arith, k.whole)))
 
     -- A note without a bin: no item of the number is on the shelf.
-    pub none_of_it : (test : Item → Bool) → ((i : Item) → (is_named number i && test i) ≡ test i) → bin_in (note_at notes number) ≡ 0 → any (holds test) p.bins ≡ false
+    pub none_of_it : (test : Item → Bool) → ((i : Item) → (is_named number i && test i) ≡ test i) → (note_at notes number).bin ≡ 0 → any (holds test) p.bins ≡ false
     none_of_it test its_own e = none_holds test its_own p.bins (λ place. k.note number place ∙ rw (e, ne_eqb 0 (suc place) (λ z. omega arith)))
 
-    pub absent : bin_in (note_at notes number) ≡ 0 → any (holds_named number) p.bins ≡ false
+    pub absent : (note_at notes number).bin ≡ 0 → any (holds_named number) p.bins ≡ false
     absent = none_of_it (is_named number) (λ i. and_self (is_named number i))
 
     -- A note with one: the item lies there.
-    module _ (place : ℕ) (e : bin_in (note_at notes number) ≡ suc place) where
+    module _ (place : ℕ) (e : (note_at notes number).bin ≡ suc place) where
       pub lies_there : keep (is_named number) (items_of (suc place) p) ≡ noted_item number (note_at notes number) ∷ []
-      lies_there = k.note number place ∙ rw (eq-eqb (bin_in (note_at notes number)) (suc place) e)
+      lies_there = k.note number place ∙ rw (eq-eqb (note_at notes number).bin (suc place) e)
 
       pub lies_nowhere_else : (j : ℕ) → (j ≡ place → ⊥) → keep (is_named number) (items_of (suc j) p) ≡ []
-      lies_nowhere_else j z = k.note number j ∙ rw (ne_eqb (bin_in (note_at notes number)) (suc j) (λ q. z (omega (arith, e, q))))
+      lies_nowhere_else j z = k.note number j ∙ rw (ne_eqb (note_at notes number).bin (suc j) (λ q. z (omega (arith, e, q))))
 
       pub present : First p.bins place
       present = first_holds (noted_item number (note_at notes number)) p.bins place lies_there (λ j l. lies_nowhere_else j (λ q. omega arith))
@@ -93,36 +94,36 @@ module _ (number : ℕ) where
       one_of_it test its_own = one_holds test its_own (noted_item number (note_at notes number)) p.bins place lies_there lies_nowhere_else
 
     -- Where no item of the number is on the shelf, its note has no bin.
-    pub not_noted : any (holds_named number) p.bins ≡ false → bin_in (note_at notes number) ≡ 0
-    not_noted h = go (bin_in (note_at notes number)) refl
+    pub not_noted : any (holds_named number) p.bins ≡ false → (note_at notes number).bin ≡ 0
+    not_noted h = go (note_at notes number).bin refl
       where
-        go : (bin : ℕ) → bin_in (note_at notes number) ≡ bin → bin ≡ 0
+        go : (bin : ℕ) → (note_at notes number).bin ≡ bin → bin ≡ 0
         go zero e = refl
         go (suc place) e = absurd (true≢false (sym (present place e).some ∙ h))
 
 -- What a word other than 0 says of the least.
-pub some_least : (word : ℕ) → 1 ≤ word → least_by word ≡ some word
+pub some_least : (word : ℕ) → 1 ≤ word → least_by word ≡ Some word
 some_least word l = rw (ne_eqb word 0 (λ e. omega arith))
 
 -- An item of a number that has none on the shelf is placed, and noted, with the word that tells its least.
-pub noted_placed : (o : Opening) {notes : List (List ℕ)} {p : Packing} → Noted notes p → (number size low bin : ℕ) {least : Option ℕ} → number < numbers
-    → bin_in (note_at notes number) ≡ 0 → least_by low ≡ least → bin ≡ bin_for o p (item number size least)
-    → Noted (set notes number (bin ∷ size ∷ low ∷ size ∷ [])) (placed o p (item number size least))
+pub noted_placed : (o : Opening) {notes : List Note} {p : Packing} → Noted notes p → (number size low bin : ℕ) {least : Option ℕ} → number < numbers
+    → (note_at notes number).bin ≡ 0 → least_by low ≡ least → bin ≡ bin_for o p (item number size least)
+    → Noted (set notes number (record { bin = bin; size = size; least = low; greatest = size })) (placed o p (item number size least))
 unfolding keep
 noted_placed o {notes = notes} {p = p} k number size low bin {least = least} inside none told e =
     record {
       whole = length-set notes number note ∙ k.whole;
       note = λ m place. ap (keep (is_named m)) (placed_items o (suc place) p i) ∙ elim (ℕ_discrete m number) [
-        | yes q ↦ rw (q, get_or-set_same notes number note [] (omega (arith, k.whole)), e, told) (own place (eqb (bin_for o p i) (suc place)))
-        | no q ↦ rw (get_or-set_other notes number m note [] q) (other m place q (eqb (bin_for o p i) (suc place)) ∙ k.note m place)
+        | yes q ↦ rw (q, get_or-set_same notes number note unnoted (omega (arith, k.whole)), e, told) (own place (eqb (bin_for o p i) (suc place)))
+        | no q ↦ rw (get_or-set_other notes number m note unnoted q) (other m place q (eqb (bin_for o p i) (suc place)) ∙ k.note m place)
       ];
     }
   where
     i : Item
     i = item number size least
 
-    note : List ℕ
-    note = bin ∷ size ∷ low ∷ size ∷ []
+    note : Note
+    note = record { bin = bin; size = size; least = low; greatest = size }
 
     none_yet : (place : ℕ) → keep (is_named number) (items_of (suc place) p) ≡ []
     none_yet place = k.note number place ∙ rw (none, ne_eqb 0 (suc place) (λ z. omega arith))
@@ -136,13 +137,13 @@ noted_placed o {notes = notes} {p = p} k number size low bin {least = least} ins
     other m place z false = refl
 
 -- The item of a number is taken out, and its note is blank.
-pub noted_without : {notes : List (List ℕ)} {p : Packing} → Noted notes p → (number : ℕ) → number < numbers → Noted (set notes number unnoted) (without number p)
+pub noted_without : {notes : List Note} {p : Packing} → Noted notes p → (number : ℕ) → number < numbers → Noted (set notes number unnoted) (without number p)
 noted_without {notes = notes} {p = p} k number inside =
     record {
       whole = length-set notes number unnoted ∙ k.whole;
       note = λ m place. ap (keep (is_named m)) (without_items (suc place) number p) ∙ elim (ℕ_discrete m number) [
-        | yes q ↦ rw (q, get_or-set_same notes number unnoted [] (omega (arith, k.whole)), ne_eqb 0 (suc place) (λ z. omega arith)) (gone place)
-        | no q ↦ rw (get_or-set_other notes number m unnoted [] q) (others m place q ∙ k.note m place)
+        | yes q ↦ rw (q, get_or-set_same notes number unnoted unnoted (omega (arith, k.whole)), ne_eqb 0 (suc place) (λ z. omega arith)) (gone place)
+        | no q ↦ rw (get_or-set_other notes number m unnoted unnoted q) (others m place q ∙ k.note m place)
       ];
     }
   where

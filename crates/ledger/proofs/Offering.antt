@@ -16,25 +16,26 @@ use Rattle.packing.specs.Bins.{Item, Bin, Packing, opened, load, kind}
 use Rattle.packing.specs.Placing.{Target, first_fit, permitted, target, takes}
 use Rattle.packing.proofs.Tests.{both_true}
 use Rattle.aim.specs.Aims.{aim, home}
-use Rattle.ledger.specs.Rows.{places, blank, row_at, class_in, free_in}
+use Rattle.ledger.specs.declared.Row.{Row}
+use Rattle.ledger.specs.Rows.{places, blank, row_at}
 use Rattle.ledger.specs.Records.{row_of, row_for, Records}
 use Rattle.ledger.specs.Offers.{in_group, offers}
 use Rattle.ledger.proofs.Chosen.{new_bin, passed, chosen}
 
 -- A bin of a group is of the group's class; so a row of another class offers nothing, and neither does that of no bin.
-pub group_class : (n : ℕ) (row : List ℕ) → in_group n row ≡ true → class_in row ≡ home n
-group_class zero row e = eqb-true (class_in row) 1 (both_true (eqb (class_in row) 1) _ e).0
-group_class (suc n) row e = eqb-true (class_in row) (suc n) e
+pub group_class : (n : ℕ) (row : Row) → in_group n row ≡ true → row.class ≡ home n
+group_class zero row e = eqb-true row.class 1 (both_true (eqb row.class 1) _ e).0
+group_class (suc n) row e = eqb-true row.class (suc n) e
 
-pub no_offer : (n : ℕ) (row : List ℕ) → (class_in row ≡ home n → ⊥) → offers n row ≡ 0
-no_offer zero row z = rw (ne_eqb (class_in row) 1 z)
-no_offer (suc n) row z = rw (ne_eqb (class_in row) (suc n) z)
+pub no_offer : (n : ℕ) (row : Row) → (row.class ≡ home n → ⊥) → offers n row ≡ 0
+no_offer zero row z = rw (ne_eqb row.class 1 z)
+no_offer (suc n) row z = rw (ne_eqb row.class (suc n) z)
 
 -- No row offers more than its free space.
-pub offers_most : (n : ℕ) (row : List ℕ) → offers n row ≤ free_in row
+pub offers_most : (n : ℕ) (row : Row) → offers n row ≤ row.free
 offers_most n row = go (in_group n row)
   where
-    go : (x : Bool) → (if x then free_in row else 0) ≤ free_in row
+    go : (x : Bool) → (if x then row.free else 0) ≤ row.free
     go true = omega arith
     go false = omega arith
 
@@ -43,10 +44,10 @@ offers_blank zero = refl
 offers_blank (suc n) = no_offer (suc n) blank (λ z. omega arith)
 
 -- A row that offers something is of the group, and what it offers is its free space.
-pub in_group_lem : (n : ℕ) (row : List ℕ) → 0 < offers n row → in_group n row ≡ true
+pub in_group_lem : (n : ℕ) (row : Row) → 0 < offers n row → in_group n row ≡ true
 in_group_lem n row = go (in_group n row)
   where
-    go : (x : Bool) → 0 < (if x then free_in row else 0) → x ≡ true
+    go : (x : Bool) → 0 < (if x then row.free else 0) → x ≡ true
     go true l = refl
     go false l = absurd (omega arith)
 
@@ -107,7 +108,7 @@ module _ (o : Opening) where
   bin_row new (b ∷ bs) zero h = refl
   bin_row new (b ∷ bs) (suc i) h = bin_row new bs i (omega arith)
 
-  module _ {p : Packing} {ledger : List (List ℕ)} (k : Records o ledger p) (n : ℕ) (i : Item) (some : 1 ≤ i.size) (aims : target o p i ≡ aim n) where
+  module _ {p : Packing} {ledger : List Row} (k : Records o ledger p) (n : ℕ) (i : Item) (some : 1 ≤ i.size) (aims : target o p i ≡ aim n) where
     fits_first : (place : ℕ) → place ≤ opened p → place ≤ places → ((j : ℕ) → j < place → offers n (row_at ledger j) < i.size)
         → (place < opened p → i.size ≤ offered p n place) → passed o p i ≡ place
     fits_first place l m lower here =

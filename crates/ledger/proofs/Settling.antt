@@ -25,11 +25,12 @@ use Rattle.packing.proofs.Keeping.{keep_map, keep_apart}
 use Rattle.packing.proofs.Settling.{in_range_some, in_range_most, settled_command, settled_kind}
 use Rattle.packing.proofs.Reached.{sound_settling}
 use Rattle.packing.proofs.Holding.{settling_items}
-use Rattle.ledger.specs.Rows.{places, row_at, class_in, free_in}
-use Rattle.ledger.specs.Notes.{numbers, note_at, bin_in, size_in, least_in, greatest_in, least_by, noted_item, settled_note, Noted}
+use Rattle.ledger.specs.declared.{Row.Row, Note.Note}
+use Rattle.ledger.specs.Rows.{places, row_at}
+use Rattle.ledger.specs.Notes.{unnoted, numbers, note_at, least_by, noted_item, settled_note, Noted}
 use Rattle.ledger.specs.Records.{held_a, row_of, Records}
 use Rattle.ledger.specs.Settling.{settled_row, Settleable, HasSettled}
-use Rattle.ledger.proofs.Entering.{four}
+use Rattle.ledger.proofs.Entering.{same_row}
 use Rattle.ledger.proofs.Noting.{none_of_it, one_of_it, some_least}
 use Rattle.ledger.proofs.Leaving.{weight_less}
 use Rattle.ledger.proofs.Holder.{bin_at, holds_one, holder_row, holder_sound, free_made, records_made}
@@ -54,7 +55,7 @@ word_outside word greatest size h = elim (ℕ_discrete word 0) [
 word_within : (word greatest size : ℕ) → 1 ≤ word → word ≤ size → size ≤ greatest → ranges (least_by word) greatest size ≡ true
 word_within word greatest size some l m = rw (some_least word some, le-leb word size l, le-leb size greatest m)
 
-module _ {notes : List (List ℕ)} {p : Packing} (t : Noted notes p) (named : ℕ) where
+module _ {notes : List Note} {p : Packing} (t : Noted notes p) (named : ℕ) where
   -- The items of the number that pass a test: none, if the note has no bin or the item that it tells of does not pass; else that one.
   module _ (test : Item → Bool) where
     abbrev passes : Item → Bool
@@ -63,36 +64,36 @@ module _ {notes : List (List ℕ)} {p : Packing} (t : Noted notes p) (named : �
     its_own : (i : Item) → (is_named named i && passes i) ≡ passes i
     its_own i = and_self_left (is_named named i) (test i)
 
-    none_passes : (bin_in (note_at notes named) ≡ 0) ⊎ (test (noted_item named (note_at notes named)) ≡ false) → any (holds passes) p.bins ≡ false
-    none_passes h = go (bin_in (note_at notes named)) refl h
+    none_passes : ((note_at notes named).bin ≡ 0) ⊎ (test (noted_item named (note_at notes named)) ≡ false) → any (holds passes) p.bins ≡ false
+    none_passes h = go (note_at notes named).bin refl h
       where
-        go : (bin : ℕ) → bin_in (note_at notes named) ≡ bin → (bin ≡ 0) ⊎ (test (noted_item named (note_at notes named)) ≡ false) → any (holds passes) p.bins ≡ false
+        go : (bin : ℕ) → (note_at notes named).bin ≡ bin → (bin ≡ 0) ⊎ (test (noted_item named (note_at notes named)) ≡ false) → any (holds passes) p.bins ≡ false
         go zero q h = none_of_it named t passes its_own q
         go (suc place) q (inl e) = absurd (omega (arith, e))
         go (suc place) q (inr e) = one_of_it named t place q passes its_own ∙ rw e (and-false (eqb named named))
 
-    one_passes : 1 ≤ bin_in (note_at notes named) → test (noted_item named (note_at notes named)) ≡ true → any (holds passes) p.bins ≡ true
-    one_passes l e = one_of_it named t (bin_in (note_at notes named) - 1) (omega arith) passes its_own ∙ rw (eq-eqb named named refl, e)
+    one_passes : 1 ≤ (note_at notes named).bin → test (noted_item named (note_at notes named)) ≡ true → any (holds passes) p.bins ≡ true
+    one_passes l e = one_of_it named t ((note_at notes named).bin - 1) (omega arith) passes its_own ∙ rw (eq-eqb named named refl, e)
 
   -- For 20: no item of the number waits for its size, if its note has no bin or no least; else it does.
-  pub not_reserved : (bin_in (note_at notes named) ≡ 0) ⊎ (least_in (note_at notes named) ≡ 0) → any (holds (awaits named)) p.bins ≡ false
+  pub not_reserved : ((note_at notes named).bin ≡ 0) ⊎ ((note_at notes named).least ≡ 0) → any (holds (awaits named)) p.bins ≡ false
   not_reserved (inl e) = none_passes unsettled (inl e)
-  not_reserved (inr e) = none_passes unsettled (inr (word_settled (least_in (note_at notes named)) e))
+  not_reserved (inr e) = none_passes unsettled (inr (word_settled (note_at notes named).least e))
 
-  pub reserved : 1 ≤ bin_in (note_at notes named) → 1 ≤ least_in (note_at notes named) → any (holds (awaits named)) p.bins ≡ true
-  reserved l some = one_passes unsettled l (word_unsettled (least_in (note_at notes named)) some)
+  pub reserved : 1 ≤ (note_at notes named).bin → 1 ≤ (note_at notes named).least → any (holds (awaits named)) p.bins ≡ true
+  reserved l some = one_passes unsettled l (word_unsettled (note_at notes named).least some)
 
   -- For 21: the size is below the least or above the greatest; else it is within the range.
   module _ (size : ℕ) where
-    pub outside_range : (size < least_in (note_at notes named)) ⊎ (greatest_in (note_at notes named) < size) → any (holds (admits named size)) p.bins ≡ false
-    outside_range h = none_passes (in_range size) (inr (word_outside (least_in (note_at notes named)) (greatest_in (note_at notes named)) size h))
+    pub outside_range : (size < (note_at notes named).least) ⊎ ((note_at notes named).greatest < size) → any (holds (admits named size)) p.bins ≡ false
+    outside_range h = none_passes (in_range size) (inr (word_outside (note_at notes named).least (note_at notes named).greatest size h))
 
-    pub within_range : 1 ≤ bin_in (note_at notes named) → in_range size (noted_item named (note_at notes named)) ≡ true → any (holds (admits named size)) p.bins ≡ true
+    pub within_range : 1 ≤ (note_at notes named).bin → in_range size (noted_item named (note_at notes named)) ≡ true → any (holds (admits named size)) p.bins ≡ true
     within_range = one_passes (in_range size)
 
 -- So it is by the words of the note.
-pub range_by_words : (named : ℕ) (note : List ℕ) (size : ℕ) → 1 ≤ least_in note → least_in note ≤ size → size ≤ greatest_in note → in_range size (noted_item named note) ≡ true
-range_by_words named note size some l m = word_within (least_in note) (greatest_in note) size some l m
+pub range_by_words : (named : ℕ) (note : Note) (size : ℕ) → 1 ≤ note.least → note.least ≤ size → size ≤ note.greatest → in_range size (noted_item named note) ≡ true
+range_by_words named note size some l m = word_within note.least note.greatest size some l m
 
 module _ (named size : ℕ) where
   -- What settling does to items of which none has the number, and to those that a test keeps by their number.
@@ -124,22 +125,22 @@ module _ (named size : ℕ) where
   settles i own within = rw (eq-eqb i.command named own, within)
 
 -- The item of a number is settled, and noted so.
-pub noted_settled : {notes : List (List ℕ)} {p : Packing} → Noted notes p → (named size : ℕ) → named < numbers → in_range size (noted_item named (note_at notes named)) ≡ true
+pub noted_settled : {notes : List Note} {p : Packing} → Noted notes p → (named size : ℕ) → named < numbers → in_range size (noted_item named (note_at notes named)) ≡ true
     → Noted (set notes named (settled_note size (note_at notes named))) (settling named size p)
 noted_settled {notes = notes} {p = p} t named size inside within =
     record {
       whole = length-set notes named after ∙ t.whole;
       note = λ m place. ap (keep (is_named m)) (settling_items (suc place) named size p) ∙ elim (ℕ_discrete m named) [
-        | yes q ↦ rw (q, get_or-set_same notes named after [] (omega (arith, t.whole)))
-            (keep_settled named size named (items_of (suc place) p) ∙ ap (map (settled named size)) (t.note named place) ∙ own (eqb (bin_in note) (suc place)))
-        | no q ↦ rw (get_or-set_other notes named m after [] q) (others_settled named size m q (items_of (suc place) p) ∙ t.note m place)
+        | yes q ↦ rw (q, get_or-set_same notes named after unnoted (omega (arith, t.whole)))
+            (keep_settled named size named (items_of (suc place) p) ∙ ap (map (settled named size)) (t.note named place) ∙ own (eqb note.bin (suc place)))
+        | no q ↦ rw (get_or-set_other notes named m after unnoted q) (others_settled named size m q (items_of (suc place) p) ∙ t.note m place)
       ];
     }
   where
-    note : List ℕ
+    note : Note
     note = note_at notes named
 
-    after : List ℕ
+    after : Note
     after = settled_note size note
 
     own : (here : Bool) → map (settled named size) (if here then noted_item named note ∷ [] else []) ≡ (if here then noted_item named after ∷ [] else [])
@@ -169,8 +170,8 @@ module _ (named size : ℕ) where
       let a : Item → Bool = λ j. is_a (kind o j) in
       ap length (keep_map (settled named size) a a b.items (λ j _. ap is_a (settled_kind named size o j))) ∙ length-map (keep a b.items) (settled named size)
 
-module _ {o : Opening} {ledger notes : List (List ℕ)} {p : Packing} (k : Records o ledger p) (t : Noted notes p) (named place size : ℕ)
-    (there : bin_in (note_at notes named) ≡ suc place) (inside : place < places) (within : in_range size (noted_item named (note_at notes named)) ≡ true) where
+module _ {o : Opening} {ledger : List Row} {notes : List Note} {p : Packing} (k : Records o ledger p) (t : Noted notes p) (named place size : ℕ)
+    (there : (note_at notes named).bin ≡ suc place) (inside : place < places) (within : in_range size (noted_item named (note_at notes named)) ≡ true) where
   -- The bin, the item that it holds, and how much smaller this turns out to be.
   abbrev holder : Bin
   holder = bin_at p place
@@ -179,7 +180,7 @@ module _ {o : Opening} {ledger notes : List (List ℕ)} {p : Packing} (k : Recor
   waiting = noted_item named (note_at notes named)
 
   abbrev freed : ℕ
-  freed = size_in (note_at notes named) - size
+  freed = (note_at notes named).size - size
 
   one : keep (is_named named) holder.items ≡ waiting ∷ []
   one = holds_one k t named place there inside
@@ -191,7 +192,7 @@ module _ {o : Opening} {ledger notes : List (List ℕ)} {p : Packing} (k : Recor
   sound = holder_sound k t named place there inside
 
   -- It counts by its greatest, so the size is no more than what it counts by.
-  pub size_less : size ≤ size_in (note_at notes named)
+  pub size_less : size ≤ (note_at notes named).size
   size_less =
       let each = each_keep (is_named named) (λ i. unsettled i ≡ true → i.size ≡ i.greatest) holder.items sound.till_settled in
       let whole : waiting.size ≡ waiting.greatest = each waiting (rw one (Memᴰ.head refl)) (in_range_some size waiting within) in
@@ -205,32 +206,32 @@ module _ {o : Opening} {ledger notes : List (List ℕ)} {p : Packing} (k : Recor
   load_after = weight_settled named size holder waiting one refl within (λ i. i.size)
 
   -- What it counts by is within the capacity.
-  pub size_few : size_in (note_at notes named) ≤ o.capacity
+  pub size_few : (note_at notes named).size ≤ o.capacity
   size_few = omega (arith, load_before, sound.not_overfull)
 
   -- There is room for what it frees.
-  pub free_few : free_in (row_at ledger place) + freed ≤ o.capacity
-  free_few = omega (arith, ap free_in row_there, load_before, sound.not_overfull, size_less)
+  pub free_few : (row_at ledger place).free + freed ≤ o.capacity
+  free_few = omega (arith, ap (λ (row : Row). row.free) row_there, load_before, sound.not_overfull, size_less)
 
   pub can_settle : o.capacity ≤ 16_777_216 → Settleable ledger place freed
   can_settle most = record { inside = inside; room = omega (arith, free_few) }
 
-  module _ {row : List ℕ} {ledger' : List (List ℕ)} (d : HasSettled ledger place freed row ledger') where
+  module _ {row : Row} {ledger' : List Row} (d : HasSettled ledger place freed row ledger') where
     row_settled : row ≡ row_of o (settled_bin named size holder)
     row_settled =
         d.row_is ∙ ap (settled_row freed) row_there
-        ∙ four refl (omega (arith, load_before, load_after, sound.not_overfull, size_less)) (sym (length-map holder.items (settled named size)))
+        ∙ same_row refl (omega (arith, load_before, load_after, sound.not_overfull, size_less)) (sym (length-map holder.items (settled named size)))
         (sym (held_a_settled named size o holder))
 
     -- "The class of … cartridge remains", and is one of the four.
-    pub class_remains : class_in (row_at ledger place) ≡ class_in row
-    class_remains = sym (ap class_in d.row_is)
+    pub class_remains : (row_at ledger place).class ≡ row.class
+    class_remains = sym (ap (λ (row : Row). row.class) d.row_is)
 
-    pub class_one_of_four : (1 ≤ class_in row) × (class_in row < 5)
-    class_one_of_four = omega (arith, ap class_in row_settled, sound.from_class_1, sound.to_class_4)
+    pub class_one_of_four : (1 ≤ row.class) × (row.class < 5)
+    class_one_of_four = omega (arith, ap (λ (row : Row). row.class) row_settled, sound.from_class_1, sound.to_class_4)
 
     -- What is then free on it.
-    pub free_settled : free_in row ≡ free_on o (suc place) (settling named size p)
+    pub free_settled : row.free ≡ free_on o (suc place) (settling named size p)
     unfolding settling
     free_settled = free_made k t named place there inside (settled_bin named size) (same_bin named size) (settling named size p) refl row_settled
 

@@ -3,19 +3,20 @@ use Rattle.std.specs.Prelude.{◌≡◌, List, map, ℕ, ◌+◌, ◌≤◌, min
 use Rattle.packing.specs.declared.{Opening.Opening, Tally.Tally}
 use Rattle.packing.specs.Bins.{Packing, opened}
 use Rattle.packing.specs.Counting.{walk}
-use Rattle.ledger.specs.Rows.{places, class_in}
+use Rattle.ledger.specs.declared.Row.{Row}
+use Rattle.ledger.specs.Rows.{places}
 use Rattle.ledger.specs.Records.{Records}
 
 -- the class row, as far as the stock goes
-abbrev pub classes : (stock : ℕ) (ledger : List (List ℕ)) → List ℕ
-classes stock ledger = map class_in (take stock ledger)
+abbrev pub classes : (stock : ℕ) (ledger : List Row) → List ℕ
+classes stock ledger = map (λ row. row.class) (take stock ledger)
 
 -- The ledger has a place for every bin of the stock.
-pub record Countable (ledger : List (List ℕ)) (stock : ℕ) : Type 0 where
+pub record Countable (ledger : List Row) (stock : ℕ) : Type 0 where
   pub whole : length ledger ≡ places
   pub few : stock ≤ places
 
-pub record Tallied (ledger : List (List ℕ)) (stock : ℕ) (r : Tally) : Type 0 where
+pub record Tallied (ledger : List Row) (stock : ℕ) (r : Tally) : Type 0 where
   -- Whatever the rows are, it is the walk over them.
   pub walked : r ≡ walk (classes stock ledger)
   -- Of every packing that they record: the figure is the number of bins opened, the places read are the lesser of the stock and the figure plus one.

@@ -22,8 +22,9 @@ use Rattle.packing.proofs.Tests.{clash, both_true}
 use Rattle.packing.proofs.Reached.{opened_settling}
 use Rattle.tournament.specs.declared.Shape.{Shape}
 use Rattle.aim.specs.declared.Counters.{Counters}
-use Rattle.ledger.specs.Rows.{places, row_at, class_in, free_in}
-use Rattle.ledger.specs.Notes.{numbers, note_at, bin_in, size_in, least_in, greatest_in, noted_item, settled_note}
+use Rattle.ledger.specs.declared.{Row.Row, Note.Note}
+use Rattle.ledger.specs.Rows.{places, row_at}
+use Rattle.ledger.specs.Notes.{numbers, note_at, noted_item, settled_note}
 use Rattle.ledger.specs.Settling.{Settleable, HasSettled}
 use Rattle.ledger.proofs.Offering.{offers_most}
 use Rattle.ledger.proofs.Noting.{past_notes as none-past, present, bin_is}
@@ -31,8 +32,9 @@ use Rattle.ledger.proofs.Few.{held_settled}
 use Rattle.ledger.proofs.Settling.{not_reserved, reserved, outside_range, within_range, range_by_words, noted_settled, size_less, size_few, can_settle, class_remains, class_one_of_four, free_settled, records_settled}
 use Rattle.index.specs.Shown.{Freed, Shown}
 use Rattle.index.proofs.Indexing.{indexes_set}
-use Rattle.engine.specs.Store.{Store, store, Represents}
+use Rattle.engine.specs.Store.{State, Represents}
 use Rattle.engine.specs.Done.{answering, Modelled, Done}
+use Rattle.engine.proofs.States.{state_of}
 use Rattle.settlement.specs.Waiting.{in_words, Waits, Fits}
 
 -- 20, 21, and what else.
@@ -51,44 +53,44 @@ unfolding settlement
 settled_as o p named size e f = rw (e, f)
 
 -- The note of the number has no bin, or no least.
-pub no_least : {o : Opening} {s : Store} {p : Packing} → Represents o s p → (named size : ℕ) → (bin_in (note_at s.notes named) ≡ 0) ⊎ (least_in (note_at s.notes named) ≡ 0)
+pub no_least : {o : Opening} {s : State} {p : Packing} → Represents o s p → (named size : ℕ) → ((note_at s.store.notes named).bin ≡ 0) ⊎ ((note_at s.store.notes named).least ≡ 0)
     → settlement o p named size ≡ Refused NotReserved
 no_least {o = o} {p = p} r named size e = not_reserved_as o p named size (not_reserved r.noted named e)
 
 -- A number past the notes.
-pub past_notes : {o : Opening} {s : Store} {p : Packing} → Represents o s p → (named size : ℕ) → numbers ≤ named → settlement o p named size ≡ Refused NotReserved
+pub past_notes : {o : Opening} {s : State} {p : Packing} → Represents o s p → (named size : ℕ) → numbers ≤ named → settlement o p named size ≡ Refused NotReserved
 past_notes r named size l = no_least r named size (inl (none-past named r.noted l))
 
 -- The item waits, and the size is outside its range.
-pub outside : {o : Opening} {shape : Shape} {named : ℕ} {s : Store} {p : Packing} → Waits o shape named s → Represents o s p → (size : ℕ)
-    → (size < least_in (note_at s.notes named)) ⊎ (greatest_in (note_at s.notes named) < size) → settlement o p named size ≡ Refused OutsideRange
+pub outside : {o : Opening} {shape : Shape} {named : ℕ} {s : State} {p : Packing} → Waits o shape named s → Represents o s p → (size : ℕ)
+    → (size < (note_at s.store.notes named).least) ⊎ ((note_at s.store.notes named).greatest < size) → settlement o p named size ≡ Refused OutsideRange
 outside {o = o} {named = named} {p = p} h r size e =
     outside_as o p named size (reserved r.noted named h.in_a_bin h.unsettled) (outside_range r.noted named size e)
 
 -- By the words of the note.
-pub outside_words : (note : List ℕ) (size : ℕ) → in_words note size ≡ false → (size < least_in note) ⊎ (greatest_in note < size)
-outside_words note size e = elim (dec_le (least_in note) size) [
-  | yes l ↦ inr (omega (arith, leb-false size (greatest_in note) (rw (le-leb (least_in note) size l) at e)))
+pub outside_words : (note : Note) (size : ℕ) → in_words note size ≡ false → (size < note.least) ⊎ (note.greatest < size)
+outside_words note size e = elim (dec_le note.least size) [
+  | yes l ↦ inr (omega (arith, leb-false size note.greatest (rw (le-leb note.least size l) at e)))
   | no l ↦ inl (omega (arith, l))
 ]
 
-pub within_words : {o : Opening} {shape : Shape} {named : ℕ} {s : Store} → Waits o shape named s → (size : ℕ) → in_words (note_at s.notes named) (stored o size) ≡ true
+pub within_words : {o : Opening} {shape : Shape} {named : ℕ} {s : State} → Waits o shape named s → (size : ℕ) → in_words (note_at s.store.notes named) (stored o size) ≡ true
     → Fits o shape named size s
 within_words {o = o} {named = named} {s = s} h size e =
-    let note = note_at s.notes named in
-    let both = both_true (leb (least_in note) (stored o size)) (leb (stored o size) (greatest_in note)) e in
-    record { waits = h; from_least = leb-true (least_in note) (stored o size) both.0; to_greatest = leb-true (stored o size) (greatest_in note) both.1 }
+    let note = note_at s.store.notes named in
+    let both = both_true (leb note.least (stored o size)) (leb (stored o size) note.greatest) e in
+    record { waits = h; from_least = leb-true note.least (stored o size) both.0; to_greatest = leb-true (stored o size) note.greatest both.1 }
 
 -- The size is within it.
-module _ {o : Opening} {shape : Shape} {named size : ℕ} {t : List ℕ} {ledger notes : List (List ℕ)} {c : Counters} (h : Fits o shape named size (store t ledger notes c)) where
+module _ {o : Opening} {shape : Shape} {named size : ℕ} {t : List ℕ} {ledger : List Row} {notes : List Note} {c : Counters} (h : Fits o shape named size (state_of t ledger notes c)) where
   -- The place of its bin, and what it frees.
   abbrev place : ℕ
-  place = bin_in (note_at notes named) - 1
+  place = (note_at notes named).bin - 1
 
   abbrev freed : ℕ
-  freed = size_in (note_at notes named) - stored o size
+  freed = (note_at notes named).size - stored o size
 
-  there : bin_in (note_at notes named) ≡ suc place
+  there : (note_at notes named).bin ≡ suc place
   there = omega (arith, h.waits.in_a_bin)
 
   within : in_range (stored o size) (noted_item named (note_at notes named)) ≡ true
@@ -101,10 +103,10 @@ module _ {o : Opening} {shape : Shape} {named size : ℕ} {t : List ℕ} {ledger
   pub inside : place < places
   inside = let sound = h.waits.sound in omega (arith, in_stock, sound.fitted.enough, sound.index.forest.few)
 
-  pub frees : stored o size ≤ size_in (note_at notes named)
+  pub frees : stored o size ≤ (note_at notes named).size
   frees = let now = h.waits.sound.represents in size_less now.records now.noted named place (stored o size) there inside within
 
-  pub counted_few : size_in (note_at notes named) ≤ o.capacity
+  pub counted_few : (note_at notes named).size ≤ o.capacity
   counted_few = let now = h.waits.sound.represents in size_few now.records now.noted named place (stored o size) there inside within
 
   pub settleable : Settleable ledger place freed
@@ -113,7 +115,7 @@ module _ {o : Opening} {shape : Shape} {named size : ℕ} {t : List ℕ} {ledger
       can_settle sound.represents.records sound.represents.noted named place (stored o size) there inside within sound.capacity
 
   -- The row has so much more free, and is shown.
-  module _ {row : List ℕ} {ledger' : List (List ℕ)} (d : HasSettled ledger place freed row ledger') where
+  module _ {row : Row} {ledger' : List Row} (d : HasSettled ledger place freed row ledger') where
     -- The row is that of a bin, and its place shows what was free before, if the tree of its class shows anything there.
     pub rises : Freed shape t place row
     rises =
@@ -124,13 +126,13 @@ module _ {o : Opening} {shape : Shape} {named size : ℕ} {t : List ℕ} {ledger
         record {
           showable = record { forest = sound.index.forest; inside = in-trees; classed = class.0; class_few = class.1 };
           rises =
-              omega (arith, sound.index.leaf (class_in row) place class.1 in-trees, offers_most (class_in row) (row_at ledger place), ap free_in d.row_is);
+              omega (arith, sound.index.leaf row.class place class.1 in-trees, offers_most row.class (row_at ledger place), ap (λ (row : Row). row.free) d.row_is);
         }
 
     module _ {u : List ℕ} (shown : Shown shape t place row u) (number left : ℕ) where
-      modelled : (p : Packing) → Represents o (store t ledger notes c) p
-          → Modelled o left number (Settle named size) (Settled (bin_in (note_at notes named)) (free_in row)) 0
-          (store u ledger' (set notes named (settled_note (stored o size) (note_at notes named))) c) p
+      modelled : (p : Packing) → Represents o (state_of t ledger notes c) p
+          → Modelled o left number (Settle named size) (Settled (note_at notes named).bin row.free) 0
+          (state_of u ledger' (set notes named (settled_note (stored o size) (note_at notes named))) c) p
       unfolding settling
       modelled p r =
           let s = stored o size in
@@ -140,7 +142,7 @@ module _ {o : Opening} {shape : Shape} {named size : ℕ} {t : List ℕ} {ledger
           record {
             looked = refl;
             answered =
-                ap (λ n. Settled n (free_in row)) there ∙ ap (Settled (suc place)) (free_settled r.records r.noted named place s there inside within d)
+                ap (λ n. Settled n row.free) there ∙ ap (Settled (suc place)) (free_settled r.records r.noted named place s there inside within d)
                 ∙ ap (λ n. Settled n (free_on o n (settling named s p))) (sym bin) ∙ sym came;
             represents =
                 rw came
@@ -153,8 +155,8 @@ module _ {o : Opening} {shape : Shape} {named size : ℕ} {t : List ℕ} {ledger
                 });
           }
 
-      pub done_settled : Done o left shape (store t ledger notes c) number (Settle named size) (answering number (Settled (bin_in (note_at notes named)) (free_in row))) 0
-          (store u ledger' (set notes named (settled_note (stored o size) (note_at notes named))) c)
+      pub done_settled : Done o left shape (state_of t ledger notes c) number (Settle named size) (answering number (Settled (note_at notes named).bin row.free)) 0
+          (state_of u ledger' (set notes named (settled_note (stored o size) (note_at notes named))) c)
       done_settled =
           let sound = h.waits.sound in
           let now = sound.represents in

@@ -5,58 +5,57 @@
 ghost use Rattle.std.specs.Prelude.{◌≡◌};
 ghost use Rattle.packing.specs.declared.Command.TheVariants.{Settle};
 ghost use Rattle.packing.specs.Bins.{stored};
-ghost use Rattle.engine.specs.Store.{store, Sound};
+ghost use Rattle.engine.specs.Store.{state, Sound};
 ghost use Rattle.engine.specs.Done.{Done};
 ghost use Rattle.settlement.specs.Waiting.{in_words, Waits, Fits};
 
 use aim::Counters;
-use engine::{Answered, Terms};
-use ledger::{
-    BINS, COLUMNS, FREE, NOTE_BIN, NOTE_GREATEST, NOTE_LEAST, NOTE_SIZE, NOTE_WORDS, NUMBERS,
-};
+use engine::{Answered, Store, Terms};
+use ledger::{BINS, NUMBERS, Note, Row};
 use packing::{ItemReason, Opening, Outcome};
-use tournament::{ROW_WORDS, looks};
+use tournament::looks::Looks;
 
 // Settles the item of a number that waits for a size within its range, and answers its bin, with the units that are then free there. The size that it was
 // shelved by stays noted: it tells the class.
 fn settle_down(
-    trees: &mut [u32; ROW_WORDS],
-    ledger: &mut [[u32; COLUMNS]; BINS],
-    notes: &mut [[u32; NOTE_WORDS]; NUMBERS],
+    store: &mut Store,
+    ledger: &mut [Row; BINS],
     terms: Terms,
     counters: Counters,
     number: usize,
     named: u32,
     size: u32,
 ) -> Answered
-    requires { Fits terms.opening terms.shape named size (store trees.old ledger.old notes.old counters) }
-    ensures { Done terms.opening terms.left terms.shape (store trees.old ledger.old notes.old counters) number (Settle named size) result.answer result.looks.count (store trees.new ledger.new notes.new result.next) }
+    requires { Fits terms.opening terms.shape named size (state store.old ledger.old counters) }
+    ensures { Done terms.opening terms.left terms.shape (state store.old ledger.old counters) number (Settle named size) result.answer result.looks.count (state store.new ledger.new result.next) }
 {
     let row_named = named as usize;
-    let note = notes[row_named];
+    let note = store.notes[row_named];
     let stored = size + terms.opening.trailer as u32;
-    let freed = note[NOTE_SIZE] - stored;
-    let lies = note[NOTE_BIN];
+    let freed = note.size - stored;
+    let lies = note.bin;
     let bin = lies as u16;
     let place = bin as usize - 1;
     let row = ledger::settle(ledger, place, freed);
-    let greatest = note[NOTE_GREATEST];
-    let settled = [lies, stored, 0, greatest];
-    notes[row_named] = settled;
-    let free = row[FREE];
+    store.notes[row_named] = Note {
+        size: stored,
+        least: 0,
+        ..note
+    };
+    let free = row.free;
     let outcome = Outcome::Settled { bin, free };
     // Last, as where an item is placed.
-    index::show_freed(trees, terms.shape, place, row);
-    engine::give(number, outcome, counters, looks::NONE)
+    index::show_freed(&mut store.trees, terms.shape, place, row);
+    engine::give(number, outcome, counters, Looks::NONE)
 }
 
 // Whether the stored size, which may be more than 32 bits hold, is within the range that a note has.
-fn is_within(note: [u32; NOTE_WORDS], opening: Opening, size: u32) -> bool
+fn is_within(note: Note, opening: Opening, size: u32) -> bool
     ensures { result ≡ in_words note (stored opening size) }
 {
     let stored = size as u64 + opening.trailer as u64;
-    let least = note[NOTE_LEAST] as u64;
-    let greatest = note[NOTE_GREATEST] as u64;
+    let least = note.least as u64;
+    let greatest = note.greatest as u64;
     if stored < least {
         return false;
     }
@@ -65,51 +64,49 @@ fn is_within(note: [u32; NOTE_WORDS], opening: Opening, size: u32) -> bool
 
 // The item of a number that waits for its size: 21 where the size is outside its range.
 fn settle_waiting(
-    trees: &mut [u32; ROW_WORDS],
-    ledger: &mut [[u32; COLUMNS]; BINS],
-    notes: &mut [[u32; NOTE_WORDS]; NUMBERS],
+    store: &mut Store,
+    ledger: &mut [Row; BINS],
     terms: Terms,
     counters: Counters,
     number: usize,
     named: u32,
     size: u32,
 ) -> Answered
-    requires { Waits terms.opening terms.shape named (store trees.old ledger.old notes.old counters) }
-    ensures { Done terms.opening terms.left terms.shape (store trees.old ledger.old notes.old counters) number (Settle named size) result.answer result.looks.count (store trees.new ledger.new notes.new result.next) }
+    requires { Waits terms.opening terms.shape named (state store.old ledger.old counters) }
+    ensures { Done terms.opening terms.left terms.shape (state store.old ledger.old counters) number (Settle named size) result.answer result.looks.count (state store.new ledger.new result.next) }
 {
     let row_named = named as usize;
-    let note = notes[row_named];
+    let note = store.notes[row_named];
     if is_within(note, terms.opening, size) {
-        return settle_down(trees, ledger, notes, terms, counters, number, named, size);
+        return settle_down(store, ledger, terms, counters, number, named, size);
     }
-    engine::refuse(number, ItemReason::OutsideRange, counters, looks::NONE)
+    engine::refuse(number, ItemReason::OutsideRange, counters, Looks::NONE)
 }
 
 // Answers command 07: 20 where no item of that number waits for its size. A number past the notes is no command's; the note of any other that has none on
 // the shelf, its own and later ones included, has no bin, and that of an item of 02 or of one that is settled has no least.
 pub fn settle(
-    trees: &mut [u32; ROW_WORDS],
-    ledger: &mut [[u32; COLUMNS]; BINS],
-    notes: &mut [[u32; NOTE_WORDS]; NUMBERS],
+    store: &mut Store,
+    ledger: &mut [Row; BINS],
     terms: Terms,
     counters: Counters,
     number: usize,
     named: u32,
     size: u32,
 ) -> Answered
-    requires { Sound terms.opening terms.shape (store trees.old ledger.old notes.old counters) }
-    ensures { Done terms.opening terms.left terms.shape (store trees.old ledger.old notes.old counters) number (Settle named size) result.answer result.looks.count (store trees.new ledger.new notes.new result.next) }
+    requires { Sound terms.opening terms.shape (state store.old ledger.old counters) }
+    ensures { Done terms.opening terms.left terms.shape (state store.old ledger.old counters) number (Settle named size) result.answer result.looks.count (state store.new ledger.new result.next) }
 {
     let place = named as usize;
     if NUMBERS <= place {
-        return engine::refuse(number, ItemReason::NotReserved, counters, looks::NONE);
+        return engine::refuse(number, ItemReason::NotReserved, counters, Looks::NONE);
     }
-    let note = notes[place];
-    if note[NOTE_BIN] == 0 {
-        return engine::refuse(number, ItemReason::NotReserved, counters, looks::NONE);
+    let note = store.notes[place];
+    if note.bin == 0 {
+        return engine::refuse(number, ItemReason::NotReserved, counters, Looks::NONE);
     }
-    if note[NOTE_LEAST] == 0 {
-        return engine::refuse(number, ItemReason::NotReserved, counters, looks::NONE);
+    if note.least == 0 {
+        return engine::refuse(number, ItemReason::NotReserved, counters, Looks::NONE);
     }
-    settle_waiting(trees, ledger, notes, terms, counters, number, named, size)
+    settle_waiting(store, ledger, terms, counters, number, named, size)
 }

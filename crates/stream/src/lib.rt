@@ -8,19 +8,17 @@ ghost use Rattle.packing.specs.Run.{result as run_result, row_at_exit};
 ghost use Rattle.ledger.specs.Rows.{places, blank};
 ghost use Rattle.stream.specs.Recorded.{Recorded};
 
-use ledger::{BINS, COLUMNS};
-use packing::{StreamReason, StreamResult};
-use reader::Summary;
-use tournament::looks;
+use ledger::{BINS, BLANK, Row};
+use packing::{Refusal, StreamReason, StreamResult, StreamTotals};
 
 // Reads a stream whole, and then answers its commands into the two rows that the caller lends, and records the packing of each production in a ledger of
-// its own, which the caller lends blank. A refused stream writes nothing.
+// its own, which the caller lends blank. A refused stream writes nothing. (Two rows of words, as the interface for C lends them.)
 pub fn record(
     stream: &[u8],
     answers: &mut [u16],
     free: &mut [u32],
-    first: &mut [[u32; COLUMNS]; BINS],
-    second: &mut [[u32; COLUMNS]; BINS],
+    first: &mut [Row; BINS],
+    second: &mut [Row; BINS],
 ) -> StreamResult
     requires first { first.old ≡ replicate places blank }
     requires second { second.old ≡ replicate places blank }
@@ -29,29 +27,22 @@ pub fn record(
     ensures free { free.new ≡ row_at_exit free_units (verdict stream.now (words_lent answers.old free.old)) free.old }
     ensures recorded { Recorded (verdict stream.now (words_lent answers.old free.old)) first.new second.new }
 {
-    match reader::validate(stream) {
-        Summary::Refused(reason, offset) => StreamResult::Refused { reason, offset },
-        Summary::Accepted(opening, count) => {
-            let words = limits::shorter(answers.len(), free.len());
-            if words < count {
-                let offset = stream.len();
-                return StreamResult::Refused {
-                    reason: StreamReason::TooFewWords,
-                    offset,
-                };
-            }
-            let shape = tournament::shape_of(opening.stock);
-            let totals = run::answer_all(stream, opening, shape, first, second, answers, free);
-            let items = totals.first.items as usize + totals.second.items as usize;
-            let opened = totals.first.opened as usize + totals.second.opened as usize;
-            let looks = looks::figure(totals.looks) as usize;
-            StreamResult::Accepted {
-                items,
-                opened,
-                looks,
-            }
-        }
+    let accepted = reader::validate(stream)?;
+    let words = answers.len().min(free.len());
+    if words < accepted.commands {
+        return Err(Refusal {
+            reason: StreamReason::TooFewWords,
+            place: stream.len(),
+        });
     }
+    let opening = accepted.opening;
+    let shape = tournament::shape_of(opening.stock);
+    let totals = run::answer_all(stream, opening, shape, first, second, answers, free);
+    Ok(StreamTotals {
+        items: totals.first.items as usize + totals.second.items as usize,
+        opened: totals.first.opened as usize + totals.second.opened as usize,
+        looks: totals.looks.count() as usize,
+    })
 }
 
 // The same where nobody asks for the packings: the ledgers live here.
@@ -60,7 +51,7 @@ pub fn shelve(stream: &[u8], answers: &mut [u16], free: &mut [u32]) -> StreamRes
     ensures answers { answers.new ≡ row_at_exit word (verdict stream.now (words_lent answers.old free.old)) answers.old }
     ensures free { free.new ≡ row_at_exit free_units (verdict stream.now (words_lent answers.old free.old)) free.old }
 {
-    let mut first = [[0u32; COLUMNS]; BINS];
-    let mut second = [[0u32; COLUMNS]; BINS];
+    let mut first = [BLANK; BINS];
+    let mut second = [BLANK; BINS];
     record(stream, answers, free, &mut first, &mut second)
 }

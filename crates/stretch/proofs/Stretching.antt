@@ -1,11 +1,11 @@
--- A stretch of one production: what every run that had come so far has come to, one command after another. The store follows the packing of the
+-- A stretch of one production: what every run that had come so far has come to, one command after another. The state follows the packing of the
 -- production; the other's packing, and so what is left of the stock, stays.
 use mathlib.Core.Path.{◌≡◌, refl, sym, ap, subst, ◌∙◌}
 use mathlib.Core.Bool.{true, false, true≢false, false≢true}
 use mathlib.Core.List.{List, [], ◌∷◌, ◌++◌, append_assoc, append-nil}
 use Prim.Native.Nat.{ℕ, suc, ◌+◌, ◌-◌, ◌≤◌, max}
 use native.Mathlib.Omega.{arith}
-use lib.ListN.{length, drop, length-drop, length-set}
+use lib.ListN.{length, drop, length-drop}
 use lib.Seq.{drop-drop}
 use Rattle.packing.specs.declared.{Opening.Opening, Production.Production, Command.Command, Answer.Answer}
 use Rattle.packing.specs.declared.Production.TheVariants.{First, Second}
@@ -22,11 +22,11 @@ use Rattle.packing.proofs.Running.{shelved_few, shelf_more}
 use Rattle.packing.proofs.Looks.{most_more}
 use Rattle.packing.proofs.Shelved.{held_shelved}
 use Rattle.packing.proofs.Withdrawals.{not_yet}
-use Rattle.packing.proofs.Underway.{underway_few, underway_same, underway_whole, coming, underway_more, underway_word, underway_next}
+use Rattle.packing.proofs.Underway.{underway_few, underway_whole, coming, underway_more, underway_word, underway_next}
 use Rattle.tournament.specs.declared.Shape.{Shape}
 use Rattle.ledger.proofs.Noting.{not_noted}
 use Rattle.engine.specs.declared.Terms.{Terms}
-use Rattle.engine.specs.Store.{Store, Sound, Represents, Ready}
+use Rattle.engine.specs.Store.{State, Sound, Represents, Ready}
 use Rattle.engine.specs.Done.{Done}
 use Rattle.stretch.specs.Words.{Writable, Written}
 use Rattle.stretch.specs.Stretches.{Begun, Gone, Startable, Stretched}
@@ -44,21 +44,14 @@ other_production First Second e = refl
 other_production Second First e = refl
 other_production Second Second e = absurd (false≢true e)
 
--- Rows in which an answer is written keep their lengths.
-pub written_same : {a : Answer} {words free words' free' : List ℕ} → Written a words free words' free' → (length words' ≡ length words) × (length free' ≡ length free)
-written_same {a = a} {words = words} {free = free} w = (
-  ap length w.words_are ∙ length-set words (a.number - 1) (word a.outcome),
-  ap length w.free_are ∙ length-set free (a.number - 1) (free_units a.outcome),
-)
-
 -- Items of either production are no more than the commands.
-held_few : (o : Opening) (q : Production) (cs : List Command) {s : Store} → Represents o s (packing o q cs) → s.counters.items ≤ length cs
+held_few : (o : Opening) (q : Production) (cs : List Command) {s : State} → Represents o s (packing o q cs) → s.counters.items ≤ length cs
 held_few o First cs r = omega (arith, r.items, held_shelved o First cs, shelved_few o cs)
 held_few o Second cs r = omega (arith, r.items, held_shelved o Second cs, shelved_few o cs)
 
 module _ {o : Opening} {q : Production} {left : ℕ} {row free_row : List ℕ} {past later : List Command} where
   -- It begins with no command of its own.
-  gone_none : {rest words free : List ℕ} {done looks : ℕ} {s : Store} → Begun o q left rest words free done looks s row free_row past later
+  gone_none : {rest words free : List ℕ} {done looks : ℕ} {s : State} → Begun o q left rest words free done looks s row free_row past later
       → Gone o q q rest words free done looks s row free_row past later
   gone_none {rest = rest} {words = words} {free = free} {done = done} {s = s} b =
       let same : past ++ [] ≡ past = append-nil past in
@@ -74,8 +67,8 @@ module _ {o : Opening} {q : Production} {left : ℕ} {row free_row : List ℕ} {
       }
 
   -- One more command.
-  module _ {rest₀ words₀ free₀ : List ℕ} {done₀ looks₀ : ℕ} {s₀ : Store} (b : Begun o q left rest₀ words₀ free₀ done₀ looks₀ s₀ row free_row past later)
-      {rest words free : List ℕ} {done looks : ℕ} {s : Store} (g : Gone o q q rest words free done looks s row free_row past later)
+  module _ {rest₀ words₀ free₀ : List ℕ} {done₀ looks₀ : ℕ} {s₀ : State} (b : Begun o q left rest₀ words₀ free₀ done₀ looks₀ s₀ row free_row past later)
+      {rest words free : List ℕ} {done looks : ℕ} {s : State} (g : Gone o q q rest words free done looks s row free_row past later)
       (c : Command) (width : ℕ) (f : front_of rest ≡ whole c width) where
     abbrev so_far : List Command
     so_far = past ++ g.mine
@@ -104,7 +97,7 @@ module _ {o : Opening} {q : Production} {left : ℕ} {row free_row : List ℕ} {
           left_few = omega (arith, b.left_is);
         }
 
-    gone_next : {shape : Shape} (s' : Store) (behind words' free' : List ℕ) (r : Answer) (own-looks looks' : ℕ) → Done o left shape s (done + 1) c r own-looks s'
+    gone_next : {shape : Shape} (s' : State) (behind words' free' : List ℕ) (r : Answer) (own-looks looks' : ℕ) → Done o left shape s (done + 1) c r own-looks s'
         → Written r words free words' free' → looks' ≡ max looks own-looks → behind ≡ drop (width + 1) rest
         → Gone o q (belonging q c) behind words' free' r.number looks' s' row free_row past later
     gone_next s' behind words' free' r own-looks looks' step w el e =
@@ -133,8 +126,8 @@ module _ {o : Opening} {q : Production} {left : ℕ} {row free_row : List ℕ} {
         })
 
 -- The invariant of the loop: what is left of the bytes, and what every run that had come so far has come to, in the same production.
-pub record Stretching (t : Terms) (q : Production) (rest₀ words₀ free₀ : List ℕ) (done₀ looks₀ : ℕ) (s₀ : Store)
-    (rest words free : List ℕ) (done looks : ℕ) (s : Store) : Type 0 where
+pub record Stretching (t : Terms) (q : Production) (rest₀ words₀ free₀ : List ℕ) (done₀ looks₀ : ℕ) (s₀ : State)
+    (rest words free : List ℕ) (done looks : ℕ) (s : State) : Type 0 where
   pub start : Startable t q rest₀ words₀ free₀ done₀ looks₀ s₀
   pub sound : Sound t.opening t.shape s
   pub inside : length rest ≤ length rest₀
@@ -142,14 +135,14 @@ pub record Stretching (t : Terms) (q : Production) (rest₀ words₀ free₀ : L
   pub goes : (row free_row : List ℕ) (past later : List Command) → Begun t.opening q t.left rest₀ words₀ free₀ done₀ looks₀ s₀ row free_row past later
       → Gone t.opening q q rest words free done looks s row free_row past later
 
-pub stretching_start : {t : Terms} {q : Production} {rest words free : List ℕ} {done looks : ℕ} {s : Store}
+pub stretching_start : {t : Terms} {q : Production} {rest words free : List ℕ} {done looks : ℕ} {s : State}
     → Startable t q rest words free done looks s → Stretching t q rest words free done looks s rest words free done looks s
 stretching_start {rest = rest} h =
     let none : 0 ≡ length rest - length rest = omega arith in
     record { start = h; sound = h.sound; inside = omega arith; rest_is = ap (λ k. drop k rest) none; goes = λ row free_row past later b. gone_none b }
 
-module _ {t : Terms} {q : Production} {rest₀ words₀ free₀ : List ℕ} {done₀ looks₀ : ℕ} {s₀ : Store}
-    {rest words free : List ℕ} {done looks : ℕ} {s : Store} (g : Stretching t q rest₀ words₀ free₀ done₀ looks₀ s₀ rest words free done looks s) where
+module _ {t : Terms} {q : Production} {rest₀ words₀ free₀ : List ℕ} {done₀ looks₀ : ℕ} {s₀ : State}
+    {rest words free : List ℕ} {done looks : ℕ} {s : State} (g : Stretching t q rest₀ words₀ free₀ done₀ looks₀ s₀ rest words free done looks s) where
   abbrev begun : Begun t.opening q t.left rest₀ words₀ free₀ done₀ looks₀ s₀ g.start.row g.start.free_row g.start.past g.start.later
   begun = g.start.begun
 
@@ -158,12 +151,6 @@ module _ {t : Terms} {q : Production} {rest₀ words₀ free₀ : List ℕ} {don
 
   pub stretching_few : done ≤ 4096
   stretching_few = underway_few gone.underway
-
-  pub stretching_same : (length words ≡ length words₀) × (length free ≡ length free₀)
-  stretching_same =
-      let now = underway_same gone.underway in
-      let then = underway_same begun.underway in
-      (now.0 ∙ sym then.0, now.1 ∙ sym then.1)
 
   pub stretching_whole : 1 ≤ length rest → WholeFront rest
   stretching_whole some = underway_whole gone.underway some
@@ -207,7 +194,7 @@ module _ {t : Terms} {q : Production} {rest₀ words₀ free₀ : List ℕ} {don
         }
 
     -- One command further.
-    module _ (s' : Store) (behind words' free' : List ℕ) (r : Answer) (own-looks looks' : ℕ) (step : Done t.opening t.left t.shape s (done + 1) command r own-looks s')
+    module _ (s' : State) (behind words' free' : List ℕ) (r : Answer) (own-looks looks' : ℕ) (step : Done t.opening t.left t.shape s (done + 1) command r own-looks s')
         (w : Written r words free words' free') (el : looks' ≡ max looks own-looks) (e : behind ≡ drop (width + 1) rest) where
       -- What a run has come to then, if the next command is of this production and the rest is this.
       abbrev Then : Production → List ℕ → (row free_row : List ℕ) (past later : List Command) → Type 0

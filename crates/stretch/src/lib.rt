@@ -1,20 +1,19 @@
 // A stretch of the second pass: the commands of one production that follow each other, answered one after another. What follows a command is handed on as
-// a part of the stream. The production's trees, ledger and notes are lent; of the other production nothing is known but what it leaves of the stock.
+// a part of the stream. The production's store is lent; of the other production nothing is known but what it leaves of the stock.
 #![tactic(auto)]
 
 ghost use Rattle.std.specs.Prelude.{◌≡◌};
 ghost use Rattle.packing.specs.Productions.{is_same};
 ghost use Rattle.packing.specs.Shelves.{belonging};
-ghost use Rattle.engine.specs.Store.{store};
+ghost use Rattle.engine.specs.Store.{state};
 ghost use Rattle.stretch.specs.Words.{Writable, Written};
 ghost use Rattle.stretch.specs.Stretches.{Startable, Stretched, leaving};
 
 use aim::Counters;
-use engine::Terms;
-use ledger::{BINS, COLUMNS, NOTE_WORDS, NUMBERS};
+use engine::{Store, Terms};
+use ledger::{BINS, Row};
 use packing::{Answer, Command, Production};
 use tournament::looks::Looks;
-use tournament::{ROW_WORDS, looks};
 
 // What a stretch leaves: the counters of its production, how many commands are answered by then, the largest looks of one of them, and how many bytes
 // it has passed.
@@ -42,12 +41,10 @@ fn ended(counters: Counters, done: usize, looks: Looks, passed: usize) -> Stretc
 fn stays(production: Production, command: Command) -> bool
     ensures { result ≡ is_same production (belonging production command) }
 {
-    let Command::Switch(next) = command else {
-        return true;
-    };
-    let own = refusals::production_number(production);
-    let other = refusals::production_number(next);
-    own == other
+    match command {
+        Command::Switch(next) => next == production,
+        _ => true,
+    }
 }
 
 // Writes the word of an answer in both rows, at the place of its number.
@@ -68,16 +65,15 @@ pub fn answer_stretch(
     production: Production,
     terms: Terms,
     before: Counters,
-    trees: &mut [u32; ROW_WORDS],
-    ledger: &mut [[u32; COLUMNS]; BINS],
-    notes: &mut [[u32; NOTE_WORDS]; NUMBERS],
+    store: &mut Store,
+    ledger: &mut [Row; BINS],
     answers: &mut [u16],
     free: &mut [u32],
     answered: usize,
     most: Looks,
 ) -> Stretch
-    requires { Startable terms production commands.now answers.old free.old answered most.count (store trees.old ledger.old notes.old before) }
-    ensures { Stretched terms production commands.now answers.old free.old answered most.count (store trees.old ledger.old notes.old before) answers.new free.new result.passed result.done result.looks.count (store trees.new ledger.new notes.new result.counters) }
+    requires { Startable terms production commands.now answers.old free.old answered most.count (state store.old ledger.old before) }
+    ensures { Stretched terms production commands.now answers.old free.old answered most.count (state store.old ledger.old before) answers.new free.new result.passed result.done result.looks.count (state store.new ledger.new result.counters) }
 {
     let mut counters = before;
     let mut rest = commands;
@@ -91,12 +87,12 @@ pub fn answer_stretch(
         rest = &rest[used..];
         let number = done + 1;
         let on = stays(production, command);
-        let step = answering::answer(trees, ledger, notes, terms, counters, number, command);
+        let step = answering::answer(store, ledger, terms, counters, number, command);
         let answer = step.answer;
         write_words(answers, free, answer);
         counters = step.next;
         done = answer.number;
-        looks = looks::larger(looks, step.looks);
+        looks = looks.larger(step.looks);
         if !on {
             return ended(counters, done, looks, commands.len() - rest.len());
         }

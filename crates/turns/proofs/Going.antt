@@ -13,25 +13,26 @@ use Rattle.packing.specs.Run.{run_from, shelf_from, current, packing, most_looks
 use Rattle.packing.specs.Underway.{Underway}
 use Rattle.packing.specs.Claims.{WholeStream}
 use Rattle.packing.proofs.Accepted.{accepted_whole}
-use Rattle.packing.proofs.Underway.{underway_start, underway_same, underway_end}
+use Rattle.packing.proofs.Underway.{underway_start, underway_end}
 use Rattle.tournament.specs.declared.Shape.{Shape}
 use Rattle.engine.specs.declared.Terms.{Terms}
-use Rattle.engine.specs.Store.{Store, store, Sound, Represents, at_opening}
+use Rattle.engine.specs.Store.{State, state, Sound, Represents, at_opening, blank_store}
 use Rattle.stretch.specs.Stretches.{Begun, Startable, Stretched}
-use Rattle.turns.specs.Running.{no_trees, no_notes, terms_beside, Runnable, Tells, Ran}
+use Rattle.turns.specs.Running.{terms_beside, Runnable, Tells, Ran}
 use Rattle.turns.specs.Turns.{Going, Turnable, Turned}
+use Rattle.ledger.specs.declared.Row.{Row}
 
-pub runnable_whole : {stream row free_row : List ℕ} {o : Opening} {shape : Shape} {first second : List (List ℕ)} (r : Runnable stream row free_row o shape first second)
+pub runnable_whole : {stream row free_row : List ℕ} {o : Opening} {shape : Shape} {first second : List Row} (r : Runnable stream row free_row o shape first second)
     → WholeStream stream (words_lent row free_row) o r.commands
 runnable_whole {stream = stream} {row = row} {free_row = free_row} {o = o} r = accepted_whole (words_lent row free_row) o r.commands stream r.accepts
 
--- A store that represents a packing tells of it by its counters and its ledger.
-tells : {o : Opening} {s : Store} {p : Packing} → Represents o s p → Tells o s.counters s.ledger p
+-- A state that represents a packing tells of it by its counters and its ledger.
+tells : {o : Opening} {s : State} {p : Packing} → Represents o s p → Tells o s.counters s.ledger p
 tells r = record { items = r.items; bins = r.bins; records = r.records }
 
-pub going_start : {o : Opening} {shape : Shape} {stream row free_row : List ℕ} {first second : List (List ℕ)} → Runnable stream row free_row o shape first second
+pub going_start : {o : Opening} {shape : Shape} {stream row free_row : List ℕ} {first second : List Row} → Runnable stream row free_row o shape first second
     → (rest : List ℕ) → rest ≡ behind_opening stream
-    → Going o shape First row free_row rest 0 0 (store no_trees first no_notes at_opening) (store no_trees second no_notes at_opening) stream row free_row
+    → Going o shape First row free_row rest 0 0 (state blank_store first at_opening) (state blank_store second at_opening) stream row free_row
 unfolding run_from shelf_from greatest
 going_start r rest b =
     record {
@@ -47,11 +48,8 @@ going_start r rest b =
       second_is = r.second_empty.represents;
     }
 
-module _ {o : Opening} {shape : Shape} {q : Production} {words free rest : List ℕ} {done looks : ℕ} {first second : Store} {stream row free_row : List ℕ}
+module _ {o : Opening} {shape : Shape} {q : Production} {words free rest : List ℕ} {done looks : ℕ} {first second : State} {stream row free_row : List ℕ}
     (g : Going o shape q words free rest done looks first second stream row free_row) where
-  pub going_same : (length words ≡ length row) × (length free ≡ length free_row)
-  going_same = underway_same g.underway
-
   pub going_end : length rest ≤ 0 → Ran stream row free_row o words free first.counters first.ledger second.counters second.ledger looks
   going_end none =
       let all : g.past ++ g.later ≡ g.past = ap (λ l. g.past ++ l) (underway_end g.underway none) ∙ append-nil g.past in
@@ -66,8 +64,8 @@ module _ {o : Opening} {shape : Shape} {q : Production} {words free rest : List 
       }
 
 -- A stretch of one production, which leaves the store of the other as it was.
-module _ {o : Opening} {shape : Shape} {q : Production} {words free rest : List ℕ} {done looks : ℕ} {first second : Store} {stream row free_row : List ℕ}
-    (g : Going o shape q words free rest done looks first second stream row free_row) {own other-one : Store} (sound : Sound o shape own)
+module _ {o : Opening} {shape : Shape} {q : Production} {words free rest : List ℕ} {done looks : ℕ} {first second : State} {stream row free_row : List ℕ}
+    (g : Going o shape q words free rest done looks first second stream row free_row) {own other-one : State} (sound : Sound o shape own)
     (own_is : Represents o own (packing o q g.past)) (other-is : Represents o other-one (packing o (other q) g.past))
     (t : Terms) (e : t ≡ terms_beside o shape other-one.counters.opened) where
   begun : Begun o q (o.stock - other-one.counters.opened) rest words free done looks own row free_row g.past g.later
@@ -79,7 +77,7 @@ module _ {o : Opening} {shape : Shape} {q : Production} {words free rest : List 
       (record { sound = sound; row = row; free_row = free_row; past = g.past; later = g.later; begun = begun })
 
   -- Where the stream has come to then.
-  record Come (words' free' behind : List ℕ) (done' looks' : ℕ) (own' : Store) : Type 0 where
+  record Come (words' free' behind : List ℕ) (done' looks' : ℕ) (own' : State) : Type 0 where
     past : List Command
     later : List Command
     accepts : verdict stream (words_lent row free_row) ≡ accepted o (past ++ later)
@@ -90,7 +88,7 @@ module _ {o : Opening} {shape : Shape} {q : Production} {words free rest : List 
     own_there : Represents o own' (packing o q past)
     other_there : Represents o other-one (packing o (other q) past)
 
-  come : {words' free' behind : List ℕ} {passed done' looks' : ℕ} {own' : Store} → Stretched t q rest words free done looks own words' free' passed done' looks' own'
+  come : {words' free' behind : List ℕ} {passed done' looks' : ℕ} {own' : State} → Stretched t q rest words free done looks own words' free' passed done' looks' own'
       → behind ≡ drop passed rest → Come words' free' behind done' looks' own'
   come {words' = words'} {free' = free'} {passed = passed} {done' = done'} {looks' = looks'} {own' = own'} s b =
       let had = subst (λ x. Stretched x q rest words free done looks own words' free' passed done' looks' own') e s in
@@ -109,12 +107,12 @@ module _ {o : Opening} {shape : Shape} {q : Production} {words free rest : List 
       })
 
 -- The one of production 0, and the one of production 1.
-module _ {o : Opening} {shape : Shape} {words free rest : List ℕ} {done looks : ℕ} {first second : Store} {stream row free_row : List ℕ} (t : Terms) where
+module _ {o : Opening} {shape : Shape} {words free rest : List ℕ} {done looks : ℕ} {first second : State} {stream row free_row : List ℕ} (t : Terms) where
   module _ (g : Going o shape First words free rest done looks first second stream row free_row) (e : t ≡ terms_beside o shape second.counters.opened) where
     pub first_startable : Startable t First rest words free done looks first
     first_startable = startable g g.first_sound g.first_is g.second_is t e
 
-    pub first_next : {words' free' behind : List ℕ} {passed done' looks' : ℕ} {first' : Store}
+    pub first_next : {words' free' behind : List ℕ} {passed done' looks' : ℕ} {first' : State}
         → Stretched t First rest words free done looks first words' free' passed done' looks' first' → behind ≡ drop passed rest
         → Going o shape Second words' free' behind done' looks' first' second stream row free_row
     first_next s b =
@@ -136,7 +134,7 @@ module _ {o : Opening} {shape : Shape} {words free rest : List ℕ} {done looks 
     pub second_startable : Startable t Second rest words free done looks second
     second_startable = startable g g.second_sound g.second_is g.first_is t e
 
-    pub second_next : {words' free' behind : List ℕ} {passed done' looks' : ℕ} {second' : Store}
+    pub second_next : {words' free' behind : List ℕ} {passed done' looks' : ℕ} {second' : State}
         → Stretched t Second rest words free done looks second words' free' passed done' looks' second' → behind ≡ drop passed rest
         → Going o shape First words' free' behind done' looks' first second' stream row free_row
     second_next s b =
@@ -155,31 +153,25 @@ module _ {o : Opening} {shape : Shape} {words free rest : List ℕ} {done looks 
         }
 
 -- The invariant of the turns: every stream that had come so far at the first of them has come further, and production 1 is to have the next.
-pub record Turning (o : Opening) (shape : Shape) (rest₀ words₀ free₀ : List ℕ) (done₀ looks₀ : ℕ) (first₀ : Store) (other₀ : List (List ℕ))
-    (words free rest : List ℕ) (done looks : ℕ) (first second : Store) : Type 0 where
+pub record Turning (o : Opening) (shape : Shape) (rest₀ words₀ free₀ : List ℕ) (done₀ looks₀ : ℕ) (first₀ : State) (other₀ : List Row)
+    (words free rest : List ℕ) (done looks : ℕ) (first second : State) : Type 0 where
   pub start : Turnable o shape rest₀ words₀ free₀ done₀ looks₀ first₀ other₀
-  pub goes : (stream row free_row : List ℕ) → Going o shape Second words₀ free₀ rest₀ done₀ looks₀ first₀ (store no_trees other₀ no_notes at_opening) stream row free_row
+  pub goes : (stream row free_row : List ℕ) → Going o shape Second words₀ free₀ rest₀ done₀ looks₀ first₀ (state blank_store other₀ at_opening) stream row free_row
       → Going o shape Second words free rest done looks first second stream row free_row
 
-pub turning_start : {o : Opening} {shape : Shape} {rest words free : List ℕ} {done looks : ℕ} {first : Store} {other : List (List ℕ)}
-    → Turnable o shape rest words free done looks first other
-    → Turning o shape rest words free done looks first other words free rest done looks first (store no_trees other no_notes at_opening)
+pub turning_start : {o : Opening} {shape : Shape} {rest words free : List ℕ} {done looks : ℕ} {first : State} {other-row : List Row}
+    → Turnable o shape rest words free done looks first other-row
+    → Turning o shape rest words free done looks first other-row words free rest done looks first (state blank_store other-row at_opening)
 turning_start h = record { start = h; goes = λ stream row free_row g. g }
 
-module _ {o : Opening} {shape : Shape} {rest₀ words₀ free₀ : List ℕ} {done₀ looks₀ : ℕ} {first₀ : Store} {other₀ : List (List ℕ)}
-    {words free rest : List ℕ} {done looks : ℕ} {first second : Store}
+module _ {o : Opening} {shape : Shape} {rest₀ words₀ free₀ : List ℕ} {done₀ looks₀ : ℕ} {first₀ : State} {other₀ : List Row}
+    {words free rest : List ℕ} {done looks : ℕ} {first second : State}
     (t : Turning o shape rest₀ words₀ free₀ done₀ looks₀ first₀ other₀ words free rest done looks first second) where
   pub turning_here : Going o shape Second words free rest done looks first second t.start.stream t.start.row t.start.free_row
   turning_here = t.goes t.start.stream t.start.row t.start.free_row t.start.going
 
-  pub turning_same : (length words ≡ length words₀) × (length free ≡ length free₀)
-  turning_same =
-      let now = going_same turning_here in
-      let then = going_same t.start.going in
-      (now.0 ∙ sym then.0, now.1 ∙ sym then.1)
-
   -- A stretch of each.
-  pub turning_next : (x y : Terms) {words' free' behind words'' free'' behind' : List ℕ} {passed done' looks' passed' done'' looks'' : ℕ} {second' first' : Store}
+  pub turning_next : (x y : Terms) {words' free' behind words'' free'' behind' : List ℕ} {passed done' looks' passed' done'' looks'' : ℕ} {second' first' : State}
       → x ≡ terms_beside o shape first.counters.opened
       → Stretched x Second rest words free done looks second words' free' passed done' looks' second' → behind ≡ drop passed rest
       → y ≡ terms_beside o shape second'.counters.opened

@@ -7,12 +7,13 @@ use Rattle.packing.specs.Run.{current, packing, most_looks}
 use Rattle.packing.specs.Underway.{Underway}
 use Rattle.tournament.specs.declared.Shape.{Shape}
 use Rattle.aim.specs.declared.Counters.{Counters}
-use Rattle.engine.specs.Store.{Store, store, Sound, Represents, at_opening}
-use Rattle.turns.specs.Running.{no_trees, no_notes, Ran}
+use Rattle.engine.specs.Store.{State, state, Sound, Represents, at_opening, blank_store}
+use Rattle.turns.specs.Running.{Ran}
+use Rattle.ledger.specs.declared.Row.{Row}
 
--- The commands past are answered, the largest of their looks is kept, and each store stands for the packing of its production after them. A command that is to come, if there is one, belongs
+-- The commands past are answered, the largest of their looks is kept, and each state stands for the packing of its production after them. A command that is to come, if there is one, belongs
 -- to q.
-pub record Going (o : Opening) (shape : Shape) (q : Production) (words free rest : List ℕ) (done looks : ℕ) (first second : Store) (stream row free_row : List ℕ) : Type 0 where
+pub record Going (o : Opening) (shape : Shape) (q : Production) (words free rest : List ℕ) (done looks : ℕ) (first second : State) (stream row free_row : List ℕ) : Type 0 where
   pub past : List Command
   pub later : List Command
   pub accepts : verdict stream (words_lent row free_row) ≡ accepted o (past ++ later)
@@ -25,15 +26,15 @@ pub record Going (o : Opening) (shape : Shape) (q : Production) (words free rest
   pub second_is : Represents o second (packing o Second past)
 
 -- Production 1 may have its first turn: some stream has come so far, and in that production nothing has been done yet.
-pub record Turnable (o : Opening) (shape : Shape) (rest words free : List ℕ) (done looks : ℕ) (first : Store) (other : List (List ℕ)) : Type 0 where
+pub record Turnable (o : Opening) (shape : Shape) (rest words free : List ℕ) (done looks : ℕ) (first : State) (other : List Row) : Type 0 where
   pub stream : List ℕ
   pub row : List ℕ
   pub free_row : List ℕ
-  pub going : Going o shape Second words free rest done looks first (store no_trees other no_notes at_opening) stream row free_row
+  pub going : Going o shape Second words free rest done looks first (state blank_store other at_opening) stream row free_row
 
 -- After all turns every stream that had come so far has been answered whole.
-abbrev pub Turned : (o : Opening) (shape : Shape) (rest words free : List ℕ) (done looks : ℕ) (first : Store) (other : List (List ℕ)) (words' free' : List ℕ)
-    (counters0 : Counters) (ledger0 : List (List ℕ)) (counters1 : Counters) (ledger1 : List (List ℕ)) (looks' : ℕ) → Type 0
+abbrev pub Turned : (o : Opening) (shape : Shape) (rest words free : List ℕ) (done looks : ℕ) (first : State) (other : List Row) (words' free' : List ℕ)
+    (counters0 : Counters) (ledger0 : List Row) (counters1 : Counters) (ledger1 : List Row) (looks' : ℕ) → Type 0
 Turned o shape rest words free done looks first other words' free' counters0 ledger0 counters1 ledger1 looks' =
-    (stream row free_row : List ℕ) → Going o shape Second words free rest done looks first (store no_trees other no_notes at_opening) stream row free_row
+    (stream row free_row : List ℕ) → Going o shape Second words free rest done looks first (state blank_store other at_opening) stream row free_row
     → Ran stream row free_row o words' free' counters0 ledger0 counters1 ledger1 looks'

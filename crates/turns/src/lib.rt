@@ -3,16 +3,18 @@
 #![tactic(auto)]
 
 ghost use Rattle.std.specs.Prelude.{◌≡◌, ◌≤◌};
-ghost use Rattle.engine.specs.Store.{store};
+ghost use Rattle.engine.specs.Store.{state};
 ghost use Rattle.turns.specs.Turns.{Turnable, Turned};
 ghost use Rattle.turns.specs.Running.{terms_beside};
 
 use aim::Counters;
-use engine::Terms;
-use ledger::{BINS, COLUMNS, NOTE_WORDS, NUMBERS};
-use packing::{Opening, Production};
+use engine::{Store, Terms};
+use ledger::{BINS, Row};
+use packing::Opening;
+use packing::Production::{First, Second};
+use stretch::Stretch;
+use tournament::Shape;
 use tournament::looks::Looks;
-use tournament::{ROW_WORDS, Shape};
 
 // The counters of both productions after all commands, and the largest looks of one.
 #[derive(Clone, Copy)]
@@ -43,75 +45,44 @@ pub fn terms_beside(opening: Opening, shape: Shape, other: Counters) -> Terms
     }
 }
 
-// Answers what follows the first stretch of production 0: stretches of production 1 and of production 0 take turns. The trees and the notes of production
-// 1 are laid out here: a stream that never goes there does without them.
+// Answers what follows the first stretch of production 0, which left this and whose store is lent: stretches of production 1 and of production 0 take
+// turns. The store of production 1 is laid out here, since a stream that never goes there does without it; the ledgers of both are lent.
 pub fn answer_turns(
     commands: &[u8],
     opening: Opening,
     shape: Shape,
-    before: Counters,
-    trees: &mut [u32; ROW_WORDS],
-    ledger: &mut [[u32; COLUMNS]; BINS],
-    notes: &mut [[u32; NOTE_WORDS]; NUMBERS],
-    other: &mut [[u32; COLUMNS]; BINS],
+    before: Stretch,
+    store: &mut Store,
+    ledger: &mut [Row; BINS],
+    other: &mut [Row; BINS],
     answers: &mut [u16],
     free: &mut [u32],
-    answered: usize,
-    most: Looks,
 ) -> Totals
-    requires { Turnable opening shape commands.now answers.old free.old answered most.count (store trees.old ledger.old notes.old before) other.old }
-    ensures { Turned opening shape commands.now answers.old free.old answered most.count (store trees.old ledger.old notes.old before) other.old answers.new free.new result.first ledger.new result.second other.new result.looks.count }
+    requires { Turnable opening shape commands.now answers.old free.old before.done before.looks.count (state store.old ledger.old before.counters) other.old }
+    ensures { Turned opening shape commands.now answers.old free.old before.done before.looks.count (state store.old ledger.old before.counters) other.old answers.new free.new result.first ledger.new result.second other.new result.looks.count }
 {
-    let mut trees1 = [0u32; ROW_WORDS];
-    let mut notes1 = [[0u32; NOTE_WORDS]; NUMBERS];
-    let mut first = before;
+    let mut store1 = Store::blank();
     let mut second = NONE_YET;
+    let mut turn = before;
     let mut later = commands;
-    let mut done = answered;
-    let mut looks = most;
     while 0 < later.len() {
+        let first = turn.counters;
         let terms = terms_beside(opening, shape, first);
-        let turn = stretch::answer_stretch(
-            later,
-            Production::Second,
-            terms,
-            second,
-            &mut trees1,
-            other,
-            &mut notes1,
-            answers,
-            free,
-            done,
-            looks,
+        let own = &mut store1;
+        let one = stretch::answer_stretch(
+            later, Second, terms, second, own, other, answers, free, turn.done, turn.looks,
         );
-        second = turn.counters;
-        done = turn.done;
-        looks = turn.looks;
-        let passed = turn.passed;
-        later = &later[passed..];
+        second = one.counters;
+        later = &later[one.passed..];
         let terms = terms_beside(opening, shape, second);
-        let turn = stretch::answer_stretch(
-            later,
-            Production::First,
-            terms,
-            first,
-            trees,
-            ledger,
-            notes,
-            answers,
-            free,
-            done,
-            looks,
+        turn = stretch::answer_stretch(
+            later, First, terms, first, store, ledger, answers, free, one.done, one.looks,
         );
-        first = turn.counters;
-        done = turn.done;
-        looks = turn.looks;
-        let passed = turn.passed;
-        later = &later[passed..];
+        later = &later[turn.passed..];
     }
     Totals {
-        first,
+        first: turn.counters,
         second,
-        looks,
+        looks: turn.looks,
     }
 }

@@ -19,8 +19,9 @@ use Rattle.packing.proofs.Reached.{opened_without}
 use Rattle.tournament.specs.declared.Shape.{Shape}
 use Rattle.aim.specs.declared.Counters.{Counters}
 use Rattle.aim.specs.Aims.{withdrawing}
-use Rattle.ledger.specs.Rows.{places, row_at, class_in, free_in}
-use Rattle.ledger.specs.Notes.{numbers, unnoted, note_at, bin_in, size_in, noted_item}
+use Rattle.ledger.specs.declared.{Row.Row, Note.Note}
+use Rattle.ledger.specs.Rows.{places, row_at}
+use Rattle.ledger.specs.Notes.{numbers, unnoted, note_at, noted_item}
 use Rattle.ledger.specs.Leaving.{Leavable, HasLeft}
 use Rattle.ledger.proofs.Entering.{one_a}
 use Rattle.ledger.proofs.Offering.{offers_most}
@@ -28,8 +29,9 @@ use Rattle.ledger.proofs.Noting.{absent, past_notes as none-past, present, bin_i
 use Rattle.ledger.proofs.Leaving.{can_leave, held_without, class_kept, class_good, free_then, records_without}
 use Rattle.index.specs.Shown.{Freed, Shown}
 use Rattle.index.proofs.Indexing.{indexes_set}
-use Rattle.engine.specs.Store.{Store, store, Represents}
+use Rattle.engine.specs.Store.{State, Represents}
 use Rattle.engine.specs.Done.{answering, Modelled, Done}
+use Rattle.engine.proofs.States.{state_of}
 use Rattle.withdrawal.specs.Lying.{Lies}
 
 -- 17, and what else.
@@ -43,23 +45,23 @@ unfolding withdrawal
 withdrawn_as o p named e = rw e
 
 -- No note has a bin of the number.
-pub no_bin : {o : Opening} {s : Store} {p : Packing} → Represents o s p → (named : ℕ) → bin_in (note_at s.notes named) ≡ 0 → withdrawal o p named ≡ Refused NotShelved
+pub no_bin : {o : Opening} {s : State} {p : Packing} → Represents o s p → (named : ℕ) → (note_at s.store.notes named).bin ≡ 0 → withdrawal o p named ≡ Refused NotShelved
 no_bin {o = o} {p = p} r named e = refused_as o p named (absent named r.noted e)
 
 -- A number past the notes.
-pub past_notes : {o : Opening} {s : Store} {p : Packing} → Represents o s p → (named : ℕ) → numbers ≤ named → withdrawal o p named ≡ Refused NotShelved
+pub past_notes : {o : Opening} {s : State} {p : Packing} → Represents o s p → (named : ℕ) → numbers ≤ named → withdrawal o p named ≡ Refused NotShelved
 past_notes r named l = no_bin r named (none-past named r.noted l)
 
 -- The item lies in a bin.
-module _ {o : Opening} {shape : Shape} {named : ℕ} {t : List ℕ} {ledger notes : List (List ℕ)} {c : Counters} (h : Lies o shape named (store t ledger notes c)) where
+module _ {o : Opening} {shape : Shape} {named : ℕ} {t : List ℕ} {ledger : List Row} {notes : List Note} {c : Counters} (h : Lies o shape named (state_of t ledger notes c)) where
   -- Its bin has this place, and it has this size.
   abbrev place : ℕ
-  place = bin_in (note_at notes named) - 1
+  place = (note_at notes named).bin - 1
 
   abbrev size : ℕ
-  size = size_in (note_at notes named)
+  size = (note_at notes named).size
 
-  there : bin_in (note_at notes named) ≡ suc place
+  there : (note_at notes named).bin ≡ suc place
   there = omega (arith, h.in_a_bin)
 
   -- What is known before it is taken out: the place is one of the stock's and of the trees', and the row can give an item.
@@ -76,7 +78,7 @@ module _ {o : Opening} {shape : Shape} {named : ℕ} {t : List ℕ} {ledger note
   some_held = omega (arith, h.sound.represents.items, held_without h.sound.represents.records h.sound.represents.noted named place there inside)
 
   -- It has left its bin, and the row is shown.
-  module _ {row : List ℕ} {ledger' : List (List ℕ)} (d : HasLeft ledger place size (one_a o (noted_item named (note_at notes named))) row ledger') where
+  module _ {row : Row} {ledger' : List Row} (d : HasLeft ledger place size (one_a o (noted_item named (note_at notes named))) row ledger') where
     -- The row is that of a bin, and its place shows what was free before, if the tree of its class shows anything there.
     pub freed : Freed shape t place row
     freed =
@@ -86,12 +88,12 @@ module _ {o : Opening} {shape : Shape} {named : ℕ} {t : List ℕ} {ledger note
         record {
           showable = record { forest = h.sound.index.forest; inside = within; classed = class.0; class_few = class.1 };
           rises =
-              omega (arith, h.sound.index.leaf (class_in row) place class.1 within, offers_most (class_in row) (row_at ledger place), ap free_in d.row_is);
+              omega (arith, h.sound.index.leaf row.class place class.1 within, offers_most row.class (row_at ledger place), ap (λ (row : Row). row.free) d.row_is);
         }
 
     module _ {u : List ℕ} (shown : Shown shape t place row u) (number left : ℕ) where
-      modelled : (p : Packing) → Represents o (store t ledger notes c) p
-          → Modelled o left number (Withdraw named) (Withdrawn (bin_in (note_at notes named)) (free_in row)) 0 (store u ledger' (set notes named unnoted) (withdrawing c)) p
+      modelled : (p : Packing) → Represents o (state_of t ledger notes c) p
+          → Modelled o left number (Withdraw named) (Withdrawn (note_at notes named).bin row.free) 0 (state_of u ledger' (set notes named unnoted) (withdrawing c)) p
       unfolding without
       modelled p r =
           let first = present named r.noted place there in
@@ -100,7 +102,7 @@ module _ {o : Opening} {shape : Shape} {named : ℕ} {t : List ℕ} {ledger note
           record {
             looked = refl;
             answered =
-                ap (λ n. Withdrawn n (free_in row)) there ∙ ap (Withdrawn (suc place)) (free_then r.records r.noted named place there inside d)
+                ap (λ n. Withdrawn n row.free) there ∙ ap (Withdrawn (suc place)) (free_then r.records r.noted named place there inside d)
                 ∙ ap (λ n. Withdrawn n (free_on o n (without named p))) (sym bin) ∙ sym came;
             represents =
                 rw came
@@ -113,8 +115,8 @@ module _ {o : Opening} {shape : Shape} {named : ℕ} {t : List ℕ} {ledger note
                 });
           }
 
-      pub done_withdrawn : Done o left shape (store t ledger notes c) number (Withdraw named) (answering number (Withdrawn (bin_in (note_at notes named)) (free_in row))) 0
-          (store u ledger' (set notes named unnoted) (withdrawing c))
+      pub done_withdrawn : Done o left shape (state_of t ledger notes c) number (Withdraw named) (answering number (Withdrawn (note_at notes named).bin row.free)) 0
+          (state_of u ledger' (set notes named unnoted) (withdrawing c))
       done_withdrawn =
           let sound = h.sound in
           let then = sound.represents in

@@ -1,14 +1,12 @@
 -- `find_spot` meets its contract: what the search says of the tree.
-use Rattle.std.proofs.Common.{◌≡◌, ℕ, List, sym, ◌∙◌, subst, arith}
-use Rattle.tournament.specs.declared.Found.{Found}
-use Rattle.tournament.specs.declared.Found.TheVariants.{At}
+use Rattle.std.proofs.Common.{◌≡◌, ℕ, List, Option, Some, sym, ◌∙◌, subst, arith}
 use Rattle.tournament.specs.LowestFit.{lowest_fit}
 use Rattle.tournament.proofs.Fits.{Lowest, Meaning, meaning}
 use Rattle.index.proofs.Forests.{leaf_count}
 use Rattle.engine.proofs.find_spot.Goals as goal
 
 -- What is known of the place that was found.
-lowest : (need : ℕ) (vs : List ℕ) {f : Found} {i : ℕ} → f ≡ lowest_fit need vs → f ≡ At i → Lowest need vs i
+lowest : (need : ℕ) (vs : List ℕ) {f : Option ℕ} {i : ℕ} → f ≡ lowest_fit need vs → f ≡ Some i → Lowest need vs i
 lowest need vs e q = subst (Meaning need vs) (sym e ∙ q) (meaning need vs)
 
 pub search-searched-requires-clause-tree : goal.search-searched-requires-clause-tree
@@ -21,9 +19,9 @@ pub value-space-requires-clause-inside : goal.value-space-requires-clause-inside
 value-space-requires-clause-inside c =
     omega (
       arith,
-      (lowest _ _ c.search-searched.ensures.found c.in-At.is).inside,
+      (lowest _ _ c.search-searched.ensures.found c.in-Some.is).inside,
       leaf_count c.requires.forest c.args.tree c.requires.tree,
     )
 
 pub overflow_sub-free : goal.overflow_sub-free
-overflow_sub-free c = omega (arith, c.value-space.ensures, (lowest _ _ c.search-searched.ensures.found c.in-At.is).enough)
+overflow_sub-free c = omega (arith, c.value-space.ensures, (lowest _ _ c.search-searched.ensures.found c.in-Some.is).enough)

@@ -1,5 +1,5 @@
 -- `place_fitting` meets its contract: what is known of the item before the search, what the search has for it, and then each way out.
-use Rattle.std.proofs.Common.{◌≡◌, ℕ, ◌+◌, ◌<◌, List, sym, ap, ◌∙◌, subst, arith}
+use Rattle.std.proofs.Common.{◌≡◌, ℕ, ◌+◌, ◌<◌, List, Option, Some, None, sym, ap, ◌∙◌, subst, arith}
 use Rattle.packing.specs.SizeClasses.{size_class, number_of}
 use Rattle.packing.specs.declared.Command.{Command}
 use Rattle.packing.specs.declared.ItemReason.TheVariants.{StockSpent}
@@ -15,21 +15,21 @@ use Rattle.sending.proofs.Sent.{word_back}
 use Rattle.aim.specs.declared.Counters.{Counters}
 use Rattle.aim.specs.Aims.{trees_with}
 use Rattle.aim.proofs.Aiming.{a_few, home_positive}
-use Rattle.ledger.specs.Rows.{class_in}
+use Rattle.ledger.specs.declared.{Row.Row, Note.Note}
 use Rattle.ledger.specs.Notes.{least_by}
 use Rattle.ledger.proofs.Few.{few_held}
-use Rattle.engine.specs.declared.{Terms.Terms, Spot.Spot, Offer.Offer, Offered.Offered}
-use Rattle.engine.specs.declared.Offer.TheVariants.{Here, Spent}
-use Rattle.engine.specs.Store.{store, Represents, Placeable}
+use Rattle.engine.specs.declared.{Terms.Terms, Spot.Spot, Offered.Offered}
+use Rattle.engine.specs.Store.{Represents, Placeable}
 use Rattle.engine.specs.Spots.{Offers}
+use Rattle.engine.proofs.States.{state_of}
 use Rattle.engine.proofs.Aimed.{Aimed, home_few}
 use Rattle.engine.proofs.Spotted.{Says, says, looked}
 use Rattle.engine.proofs.Ways.{refused_so, looks_so, done_refused, done_placed}
 use Rattle.engine.proofs.place_fitting.Goals as goal
 
 -- Before the search: the item and its tree.
-module _ (terms : Terms) {number : ℕ} {command : Command} {t : List ℕ} {ledger notes : List (List ℕ)} {k : Counters}
-    (given : Placeable terms.opening terms.left terms.shape number command (store t ledger notes k)) {bare tree : ℕ} (asked : bare ≡ size_of command)
+module _ (terms : Terms) {number : ℕ} {command : Command} {t : List ℕ} {ledger : List Row} {notes : List Note} {k : Counters}
+    (given : Placeable terms.opening terms.left terms.shape number command (state_of t ledger notes k)) {bare tree : ℕ} (asked : bare ≡ size_of command)
     (aim : tree ≡ number_of (trees_with k.b2) (size_class terms.opening.capacity (bare + terms.opening.trailer))) where
   sized : bare + terms.opening.trailer ≡ stored terms.opening (size_of command)
   sized = ap (λ (bare : ℕ). bare + terms.opening.trailer) asked
@@ -45,18 +45,18 @@ module _ (terms : Terms) {number : ℕ} {command : Command} {t : List ℕ} {ledg
 
   module _ {offered : Offered} (found : Offers terms t k.opened tree (bare + terms.opening.trailer) offered) where
     -- What the search says of the item, by what it has for it.
-    abbrev Said : Offer → Type 0
+    abbrev Said : Option Spot → Type 0
     Said =
-        Says terms.opening terms.left terms.shape (store t ledger notes k) number (bare + terms.opening.trailer) (least_of terms.opening command)
+        Says terms.opening terms.left terms.shape (state_of t ledger notes k) number (bare + terms.opening.trailer) (least_of terms.opening command)
         tree
 
-    said : {offer : Offer} → offered.offer ≡ offer → Said offer
+    said : {spot : Option Spot} → offered.spot ≡ spot → Said spot
     said has =
-        subst Said (sym found.offer_is ∙ has)
+        subst Said (sym found.spot_is ∙ has)
         (says aimed terms.left number (least_of terms.opening command) given.ready.left_few given.ready.sound)
 
     -- The looks are the model's: it passes the checks before 10.
-    looks_are : (p : Packing) → Represents terms.opening (store t ledger notes k) p → offered.looks.count ≡ looks_to terms.opening p number command
+    looks_are : (p : Packing) → Represents terms.opening (state_of t ledger notes k) p → offered.looks.count ≡ looks_to terms.opening p number command
     looks_are p r =
         let o = terms.opening in
         let least = least_of o command in
@@ -65,14 +65,14 @@ module _ (terms : Terms) {number : ℕ} {command : Command} {t : List ℕ} {ledg
         ∙ looks_so o p number command given.sends (looks_by o p (item_of o number command) (fault command) given.faultless given.fits)
 
     -- It has none.
-    spent : offered.offer ≡ Spent → (p : Packing) → Represents terms.opening (store t ledger notes k) p
+    spent : offered.spot ≡ None → (p : Packing) → Represents terms.opening (state_of t ledger notes k) p
         → decision terms.opening p (item_of terms.opening number command) terms.left (fault command) ≡ refusing StockSpent
     spent e p r =
         ap (λ size. decision terms.opening p (item number size (least_of terms.opening command)) terms.left (fault command)) (sym sized)
         ∙ said e p r (fault command) given.faultless
 
     -- It has a spot.
-    few : {spot : Spot} → offered.offer ≡ Here spot → spot.place < 512
+    few : {spot : Spot} → offered.spot ≡ Some spot → spot.place < 512
     few e = omega (arith, (said e).inside, given.ready.sound.index.forest.few)
 
 pub returns-in_default : goal.returns-in_default
@@ -88,17 +88,17 @@ returns-in_default c =
 
 pub overflow_add-bin : goal.overflow_add-bin
 overflow_add-bin c =
-    omega (arith, few c.args.terms c.requires c.size_of-size.ensures c.tree_for-tree.ensures c.find_spot-offered.ensures c.in-Here.is)
+    omega (arith, few c.args.terms c.requires c.size_of-size.ensures c.tree_for-tree.ensures c.find_spot-offered.ensures c.in-Some.is)
 
 pub overflow_cast-bin : goal.overflow_cast-bin
 overflow_cast-bin c =
-    omega (arith, few c.args.terms c.requires c.size_of-size.ensures c.tree_for-tree.ensures c.find_spot-offered.ensures c.in-Here.is)
+    omega (arith, few c.args.terms c.requires c.size_of-size.ensures c.tree_for-tree.ensures c.find_spot-offered.ensures c.in-Some.is)
 
 pub enter-row-requires : goal.enter-row-requires
 enter-row-requires c =
-    let inside = few c.args.terms c.requires c.size_of-size.ensures c.tree_for-tree.ensures c.find_spot-offered.ensures c.in-Here.is in
+    let inside = few c.args.terms c.requires c.size_of-size.ensures c.tree_for-tree.ensures c.find_spot-offered.ensures c.in-Some.is in
     let before = c.requires.ready.sound.represents in
-    let row = few_held before.records c.in-Here.spot.place inside in
+    let row = few_held before.records c.in-Some.spot.place inside in
     record {
       inside = inside;
       held_few = omega (arith, row.held, before.items, c.requires.ready.room);
@@ -107,16 +107,16 @@ enter-row-requires c =
 
 pub overflow_cast-lies : goal.overflow_cast-lies
 overflow_cast-lies c =
-    omega (arith, few c.args.terms c.requires c.size_of-size.ensures c.tree_for-tree.ensures c.find_spot-offered.ensures c.in-Here.is)
+    omega (arith, few c.args.terms c.requires c.size_of-size.ensures c.tree_for-tree.ensures c.find_spot-offered.ensures c.in-Some.is)
 
 pub show-requires : goal.show-requires
 show-requires c =
     let at = c.size_of-size.ensures in
     let aim = c.tree_for-tree.ensures in
-    let class : class_in c.enter-row.result ≡ c.home_of-class.result = ap class_in c.enter-row.ensures.row_is in
+    let class : c.enter-row.result.class ≡ c.home_of-class.result = ap (λ (row : Row). row.class) c.enter-row.ensures.row_is in
     record {
       forest = c.requires.ready.sound.index.forest;
-      inside = (said c.args.terms c.requires at aim c.find_spot-offered.ensures c.in-Here.is).inside;
+      inside = (said c.args.terms c.requires at aim c.find_spot-offered.ensures c.in-Some.is).inside;
       classed = omega (arith, class, c.home_of-class.ensures, home_positive c.tree_for-tree.result);
       class_few = omega (arith, class, c.home_of-class.ensures, home_few (aimed c.args.terms c.requires at aim));
     }
@@ -132,5 +132,5 @@ returns c =
     rw (c.give.ensures, c.accept-next.ensures)
     (done_placed command c.requires.sends faultless (sized c.args.terms c.requires at aim) (aimed c.args.terms c.requires at aim) _
     (ap least_by c.least_word-least.ensures ∙ word_back o command faultless) (rw (c.home_of-class.ensures, c.a_for-a.ensures) at c.enter-row.ensures)
-    c.show.ensures (few c.args.terms c.requires at aim found c.in-Here.is) _ _ c.requires.ready
-    (said c.args.terms c.requires at aim found c.in-Here.is) (looks_are c.args.terms c.requires at aim found))
+    c.show.ensures (few c.args.terms c.requires at aim found c.in-Some.is) _ _ c.requires.ready
+    (said c.args.terms c.requires at aim found c.in-Some.is) (looks_are c.args.terms c.requires at aim found))

@@ -14,5 +14,5 @@ returns c =
     rw c.refuse.ensures
     (done_refused c.requires.sound
     (λ p r. outside c.requires r (stored c.args.terms.opening c.args.size)
-    (outside_words (note_at c.args.notes.now c.args.named) (stored c.args.terms.opening c.args.size) (sym c.is_within.ensures ∙ c.if-is_within.false)))
+    (outside_words (note_at c.args.store.now.notes c.args.named) (stored c.args.terms.opening c.args.size) (sym c.is_within.ensures ∙ c.if-is_within.false)))
     (λ p r. refl))
