@@ -3,8 +3,8 @@ use mathlib.Core.Path.{◌≡◌, refl, sym, ap, subst, ◌∙◌}
 use mathlib.Core.List.{List, [], ◌∷◌, ◌++◌, flatten, map-append, append_assoc, append-nil}
 use Prim.Native.Nat.{ℕ, suc, ◌+◌, ◌*◌, ◌≤◌, ◌<◌}
 use native.Mathlib.Omega.{arith}
+use native.Mathlib.Decide.{dec_le}
 use lib.ListN.{length, drop, get_or, length-append}
-use lib.Seq.{length-sets}
 use Rattle.packing.specs.declared.{Opening.Opening, Command.Command, Outcome.Outcome, Answer.Answer}
 use Rattle.packing.specs.Limits.{most_commands}
 use Rattle.packing.specs.Refusals.{word, free_units, outcome_of}
@@ -19,39 +19,40 @@ use Rattle.packing.proofs.Running.{flatten_append, mapped_more, word_ahead}
 use Rattle.packing.proofs.Given.{Told, told_to, word_gives_back}
 use Rattle.packing.proofs.Fronts.{whole_passed}
 use Rattle.packing.proofs.Walking.{Walk, walk_start, walk_next, walk_coming, walked_all, walk_more, walk_whole}
-use Rattle.text.specs.Writing.{Room, Wrote}
-use Rattle.text.proofs.Rows.{wrote_both}
+use Rattle.text.specs.declared.Text.{Text}
+use Rattle.text.specs.Writing.{Room, Appended}
+use Rattle.text.proofs.Texts.{appended_none, appended_both}
 use Rattle.answer_lines.specs.Lines.{line_of, answer_line, lines, most_of_a_line}
 use Rattle.answer_lines.specs.Writing.{Listable, Listed}
 use Rattle.answer_lines.proofs.Lengths.{answer_line_few}
 
-pub listable_whole : {stream words free out : List ℕ} (a : Listable stream words free out) → WholeStream stream most_commands a.opening a.commands
+pub listable_whole : {stream words free : List ℕ} {text : Text} (a : Listable stream words free text) → WholeStream stream most_commands a.opening a.commands
 listable_whole {stream = stream} a = accepted_whole most_commands a.opening a.commands stream a.accepts
 
--- So many commands are past, and their lines end at this place.
-pub record Listing (stream words free out₀ out rest : List ℕ) (done at : ℕ) : Type 0 where
-  pub from : Listable stream words free out₀
+-- So many commands are past, and their lines stand behind the text.
+pub record Listing (stream words free : List ℕ) (text₀ text : Text) (rest : List ℕ) (done : ℕ) : Type 0 where
+  pub from : Listable stream words free text₀
   pub past : List Command
   pub offset : ℕ
   pub walk : Walk from.opening stream rest offset past
   pub done_are : done ≡ length past
-  pub few : at ≤ most_of_a_line * done
-  pub wrote : Wrote out₀ 0 (lines (answers from.opening past)) at out
+  pub few : length (lines (answers from.opening past)) ≤ most_of_a_line * done
+  pub wrote : Appended text₀ (lines (answers from.opening past)) text
 
-pub listing_start : {stream words free out : List ℕ} (rest : List ℕ) → Listable stream words free out → rest ≡ behind_opening stream
-    → Listing stream words free out out rest 0 0
+pub listing_start : {stream words free : List ℕ} {text : Text} (rest : List ℕ) → Listable stream words free text → rest ≡ behind_opening stream
+    → Listing stream words free text text rest 0
 unfolding run_from flatten
-listing_start {stream = stream} rest a b = record {
+listing_start {stream = stream} {text = text} rest a b = record {
   from = a;
   past = [];
   offset = _;
   walk = walk_start a.opening stream rest (listable_whole a).opening_whole b;
   done_are = refl;
   few = omega arith;
-  wrote = record { place = omega arith; bytes = refl };
+  wrote = appended_none text;
 }
 
-module _ {stream words free out₀ out rest : List ℕ} {done at : ℕ} (g : Listing stream words free out₀ out rest done at) where
+module _ {stream words free : List ℕ} {text₀ text : Text} {rest : List ℕ} {done : ℕ} (g : Listing stream words free text₀ text rest done) where
   abbrev o : Opening
   o = g.from.opening
 
@@ -61,18 +62,15 @@ module _ {stream words free out₀ out rest : List ℕ} {done at : ℕ} (g : Lis
   ok : WholeStream stream most_commands o all
   ok = listable_whole g.from
 
-  pub listing_same : length out ≡ length out₀
-  listing_same = ap length g.wrote.bytes ∙ length-sets out₀ 0 (lines (answers o g.past))
-
-  pub listing_end : length rest ≤ 0 → Listed stream out₀ at out
+  pub listing_end : length rest ≤ 0 → Listed stream text₀ text
   listing_end none =
       let same : g.past ≡ all = walked_all g.walk all ok.commands_whole none in
       record {
         opening = o;
         commands = all;
         accepts = g.from.accepts;
-        wrote = subst (λ (cs : List Command). Wrote out₀ 0 (lines (answers o cs)) at out) same g.wrote;
-        few = omega (arith, g.few, g.done_are, g.walk.few);
+        wrote = subst (λ (cs : List Command). Appended text₀ (lines (answers o cs)) text) same g.wrote;
+        few = omega (arith, ap (λ (cs : List Command). length (lines (answers o cs))) same, g.few, g.done_are, g.walk.few);
       }
 
   pub listing_whole : 1 ≤ length rest → WholeFront rest
@@ -122,17 +120,24 @@ module _ {stream words free out₀ out rest : List ℕ} {done at : ℕ} (g : Lis
           rw (mapped_more o g.past c answer_of, map-append, flatten_append, append-nil)
           (ap (λ (l : List ℕ). lines (answers o g.past) ++ l) (ap (λ (k : ℕ). line_of k given) number ∙ ap (line_of (done + 1)) (sym told)))
 
-      pub listing_room : Room out at (answer_line printing)
-      listing_room = omega (arith, line_few, g.few, g.from.room, listing_same, listing_index)
+      pub listing_room : Room text (length (answer_line printing))
+      listing_room = omega (arith, line_few, g.few, g.from.room, g.wrote, listing_index)
 
-      pub listing_next : (out' rest' : List ℕ) (end : ℕ) → Wrote out at (answer_line printing) end out' → rest' ≡ drop (w + 1) rest
-          → Listing stream words free out₀ out' rest' (done + 1) end
-      listing_next out' rest' end wrote b = record {
+      pub listing_next : {text' : Text} (rest' : List ℕ) → Appended text (answer_line printing) text' → rest' ≡ drop (w + 1) rest
+          → Listing stream words free text₀ text' rest' (done + 1)
+      listing_next rest' wrote b = record {
         from = g.from;
         past = g.past ++ c ∷ [];
         offset = g.offset + (w + 1);
         walk = rw b (walk_next g.walk more c w f);
         done_are = omega (arith, g.done_are, length-append g.past (c ∷ []));
-        few = omega (arith, wrote.place, line_few, g.few);
-        wrote = rw lines_more (wrote_both out₀ 0 (lines (answers o g.past)) (answer_line printing) at out g.wrote end out' wrote);
+        few = omega (arith, ap length lines_more, length-append (lines (answers o g.past)) (answer_line printing), line_few, g.few);
+        wrote = rw lines_more (appended_both g.wrote wrote);
       }
+
+  -- A walk over all words is at the end of the stream.
+  pub listing_all : 4096 ≤ done → length rest ≤ 0
+  listing_all all = elim (dec_le 1 (length rest)) [
+    | yes more ↦ let f = listing_whole more in absurd (omega (arith, listing_index f.command f.width f.front_is))
+    | no none ↦ omega arith
+  ]

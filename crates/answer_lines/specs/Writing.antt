@@ -5,11 +5,12 @@ use Rattle.packing.specs.Limits.{most_commands}
 use Rattle.packing.specs.Refusals.{word, free_units}
 use Rattle.packing.specs.Streams.{accepted, verdict}
 use Rattle.packing.specs.Run.{answers, outcomes}
-use Rattle.text.specs.Writing.{Wrote}
+use Rattle.text.specs.declared.Text.{Text}
+use Rattle.text.specs.Writing.{Room, Appended}
 use Rattle.answer_lines.specs.Lines.{lines, most_of_answers}
 
 -- No refusal stops the stream, and the words of the answers to its commands are the first of these, in both rows; each line has room.
-pub record Listable (stream words free out : List ℕ) : Type 0 where
+pub record Listable (stream words free : List ℕ) (text : Text) : Type 0 where
   pub opening : Opening
   pub commands : List Command
   pub accepts : verdict stream most_commands ≡ accepted opening commands
@@ -17,12 +18,12 @@ pub record Listable (stream words free out : List ℕ) : Type 0 where
   pub answers : words ≡ map word (outcomes opening commands) ++ others
   pub other_frees : List ℕ
   pub frees : free ≡ map free_units (outcomes opening commands) ++ other_frees
-  pub room : most_of_answers ≤ length out
+  pub room : Room text most_of_answers
 
--- The lines of all answers stand at the front of the row.
-pub record Listed (stream out : List ℕ) (end : ℕ) (out' : List ℕ) : Type 0 where
+-- The lines of all answers stand behind the text.
+pub record Listed (stream : List ℕ) (text text' : Text) : Type 0 where
   pub opening : Opening
   pub commands : List Command
   pub accepts : verdict stream most_commands ≡ accepted opening commands
-  pub wrote : Wrote out 0 (lines (answers opening commands)) end out'
-  pub few : end ≤ most_of_answers
+  pub wrote : Appended text (lines (answers opening commands)) text'
+  pub few : length (lines (answers opening commands)) ≤ most_of_answers

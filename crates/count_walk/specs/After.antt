@@ -1,6 +1,6 @@
 -- After all commands of an accepted stream, in each production: the number of bins that it opened, and the lesser of the whole stock and that figure
--- plus one. A refused one has no stock.
-use Rattle.std.specs.Prelude.{ℕ, ◌+◌, min}
+-- plus one. After a refused one there is none.
+use Rattle.std.specs.Prelude.{ℕ, ◌+◌, min, Option, Some, None}
 use Rattle.packing.specs.declared.Tally.{Tally}
 use Rattle.packing.specs.declared.Production.TheVariants.{First, Second}
 use Rattle.packing.specs.Bins.{Packing, opened}
@@ -11,9 +11,6 @@ use Rattle.count_walk.specs.declared.Tallies.{Tallies}
 abbrev pub tally_of : (stock : ℕ) → Packing → Tally
 tally_of stock p = record { figure = opened p; read = min stock (opened p + 1) }
 
-abbrev pub none : Tally
-none = record { figure = 0; read = 0 }
-
-abbrev pub after : Read → Tallies
-after (accepted o cs) = record { first = tally_of o.stock (packing o First cs); second = tally_of o.stock (packing o Second cs) }
-after (refused reason offset) = record { first = none; second = none }
+abbrev pub after : Read → Option Tallies
+after (accepted o cs) = Some (record { first = tally_of o.stock (packing o First cs); second = tally_of o.stock (packing o Second cs) })
+after (refused reason offset) = None

@@ -8,9 +8,9 @@ ghost use Rattle.packing.specs.Limits.{most_commands};
 ghost use Rattle.packing.specs.Streams.{verdict};
 ghost use Rattle.count_walk.specs.After.{after};
 
-use ledger::{BINS, COLUMNS};
+use ledger::{BINS, BLANK};
 use limits::MOST_COMMANDS;
-use packing::{StreamResult, Tally};
+use packing::Tally;
 use report::refused::MOST_BYTES;
 use std::io;
 
@@ -21,53 +21,39 @@ struct Tallies {
     second: Tally,
 }
 
-// What the counts after the stream hand back; of a refused stream nothing is read.
-fn tally_after(stream: &[u8]) -> Tallies
+// What the counts after an accepted stream hand back.
+fn tally_after(stream: &[u8]) -> Option<Tallies>
     ensures { result ≡ after (verdict stream.now most_commands) }
 {
     let mut answers = [0u16; MOST_COMMANDS];
     let mut free = [0u32; MOST_COMMANDS];
-    let mut ledger0 = [[0u32; COLUMNS]; BINS];
-    let mut ledger1 = [[0u32; COLUMNS]; BINS];
+    let mut ledger0 = [BLANK; BINS];
+    let mut ledger1 = [BLANK; BINS];
     match stream::record(stream, &mut answers, &mut free, &mut ledger0, &mut ledger1) {
-        StreamResult::Refused {
-            reason: _,
-            offset: _,
-        } => {
-            let none = Tally { figure: 0, read: 0 };
-            Tallies {
-                first: none,
-                second: none,
-            }
-        }
-        StreamResult::Accepted {
-            items: _,
-            opened: _,
-            looks: _,
-        } => {
+        Err(_) => None,
+        Ok(_) => {
             let opening = reader::opening_of(stream);
             let stock = opening.stock;
             let first = ledger::count(&ledger0, stock);
             let second = ledger::count(&ledger1, stock);
-            Tallies { first, second }
+            Some(Tallies { first, second })
         }
     }
 }
 
-// Prints the two figures of a count in an accepted stream: it reads a place at least.
+// Prints the two figures of a count.
 fn show(rt: &impl Print, tally: Tally) -> io::Result<()> {
-    if tally.read == 0 {
-        return Ok(());
-    }
     println!(rt; "{} {}", tally.figure, tally.read)
 }
 
 // It reads as `shelve` does.
 fn main(rt: HostRuntime) -> io::Result<()> {
-    let mut stream = [0u8; MOST_BYTES + 1];
-    let read = input::read_full(&mut rt.stdin(), &mut stream)?;
-    if read <= MOST_BYTES {
-        let tallies = tally_after(&stream[..read]);
+    let mut row = [0u8; MOST_BYTES + 1];
+    let stream = input::read_full(&mut rt.stdin(), &mut row)?;
+    if MOST_BYTES < stream.len() {
+        return Ok(());
+    }
+    if let Some(tallies) = tally_after(stream) {
         show(&rt, tallies.first)?;
         show(&rt, tallies.second)?;
     }

@@ -1,50 +1,36 @@
-// Spaces, and numbers right-aligned with spaces, written into a row of bytes. Each function takes the place where its text begins and answers the
-// place behind it.
+// Spaces, and numbers right-aligned with spaces, behind a text.
 #![tactic(auto)]
 
-ghost use Rattle.std.specs.Prelude.{◌≤◌, length};
-ghost use Rattle.text.specs.Lines.{decimal};
-ghost use Rattle.text.specs.Writing.{Room, Wrote};
+ghost use Rattle.std.specs.Prelude.{◌+◌, length};
+ghost use Rattle.text.specs.Writing.{Room, Appended};
 ghost use Rattle.fields.specs.Fields.{spaces, ending, right};
 
-// So many spaces.
-pub fn put_spaces(out: &mut [u8], at: usize, n: usize) -> usize
-    requires { Room out.old at (spaces n) }
-    ensures { Wrote out.old at (spaces n) result out.new }
+use text::Text;
+
+pub fn put_spaces(text: &mut Text<'_>, n: usize)
+    requires { Room text.old n }
+    ensures { Appended text.old (spaces n) text.new }
 {
-    let mut end = at;
-    let mut done: usize = 0;
-    while done < n {
-        end = text::put_byte(out, end, b' ');
-        done += 1;
+    for _ in 0..n {
+        text.put_byte(b' ');
     }
-    end
 }
 
 // The end of a line: so many spaces, and a newline.
-pub fn put_end(out: &mut [u8], at: usize, n: usize) -> usize
-    requires { Room out.old at (ending n) }
-    ensures { Wrote out.old at (ending n) result out.new }
+pub fn put_end(text: &mut Text<'_>, n: usize)
+    requires { Room text.old (n + 1) }
+    ensures { Appended text.old (ending n) text.new }
 {
-    let end = put_spaces(out, at, n);
-    text::put_byte(out, end, b'\n')
+    put_spaces(text, n);
+    text.put_byte(b'\n');
 }
 
-// A number in a field that has a place for each of its digits: the field of its tens, if it has any, and then its last digit.
-pub fn put_right(out: &mut [u8], at: usize, width: usize, n: usize) -> usize
-    requires fits { length (decimal n) ≤ width }
-    requires room { Room out.old at (right width n) }
-    ensures { Wrote out.old at (right width n) result out.new }
+// A number in a field of this width; one with more digits stands whole.
+pub fn put_right(text: &mut Text<'_>, width: usize, n: usize)
+    requires { Room text.old (length (right width n)) }
+    ensures { Appended text.old (right width n) text.new }
 {
-    let before = width - 1;
-    if n < 10 {
-        let next = put_spaces(out, at, before);
-        let only = 48 + n as u8;
-        return text::put_byte(out, next, only);
-    }
-    let tens = n / 10;
-    let next = put_right(out, at, before, tens);
-    let ones = n % 10;
-    let last = 48 + ones as u8;
-    text::put_byte(out, next, last)
+    let digits = text::digits(n);
+    put_spaces(text, width.saturating_sub(digits));
+    text.put_decimal(n);
 }

@@ -5,10 +5,10 @@ ghost use Rattle.std.specs.Prelude.{◌≤◌, length, IfOk};
 
 use std::io::{self, Read};
 
-// Reads until the row is full or the input ends, and tells how many bytes there are. Each read but the last gives a byte at least, so there are no more reads
-// than the row has bytes.
-pub fn read_full<R: Read>(input: &mut R, row: &mut [u8]) -> io::Result<usize>
-    ensures { IfOk result (λ n. n ≤ length row.new) }
+// Reads until the row is full or the input ends, and gives the bytes that it read. Each read but the last gives a byte at least, so there are no more
+// reads than the row has bytes.
+pub fn read_full<'a, R: Read>(input: &mut R, row: &'a mut [u8]) -> io::Result<&'a [u8]>
+    ensures { IfOk result (λ bytes. length bytes.now ≤ length row.old) }
 {
     let mut read: usize = 0;
     for _ in 0..row.len() {
@@ -18,5 +18,5 @@ pub fn read_full<R: Read>(input: &mut R, row: &mut [u8]) -> io::Result<usize>
         }
         read += n;
     }
-    Ok(read)
+    Ok(&row[..read])
 }

@@ -9,6 +9,7 @@ use borrow.Author.Tests.{eq-eqb, ne_eqb, eqb-true, eqb-false}
 use lib.Dec.{eqb}
 use lib.ListN.{length, length-append}
 use Rattle.packing.proofs.Running.{flatten_append}
+use Rattle.ledger.specs.declared.Row.{Row as LedgerRow}
 use Rattle.ledger.specs.Rows.{places}
 use Rattle.pages.specs.Pages.{Row, Line, page, bin, characters, line_text}
 use Rattle.pages.specs.Claims.{with_page}
@@ -36,10 +37,10 @@ line_length_lem l h = omega (arith, length-append (characters l) (code "\n" ∷ 
 pub page_line : (number : ℕ) → number < 1000 → length (line_text (page number)) ≡ line_length
 page_line number few = line_length_lem (page number) (page_length number few)
 
-pub bin_line : {capacity number : ℕ} {row : List ℕ} → Legible capacity number row → length (line_text (bin (told capacity number row))) ≡ line_length
+pub bin_line : {capacity number : ℕ} {row : LedgerRow} → Legible capacity number row → length (line_text (bin (told capacity number row))) ≡ line_length
 bin_line {capacity = capacity} {number = number} {row = row} l = line_length_lem (bin (told capacity number row)) (bin_length l)
 
-module _ {capacity : ℕ} {row : List ℕ} (pages : ℕ) (few : pages ≤ places) (place : ℕ) (l : Legible capacity (place + 1) row) where
+module _ {capacity : ℕ} {row : LedgerRow} (pages : ℕ) (few : pages ≤ places) (place : ℕ) (l : Legible capacity (place + 1) row) where
   abbrev r : Row
   r = told capacity (place + 1) row
 

@@ -12,6 +12,7 @@ use Rattle.packing.specs.declared.Opening.{Opening}
 use Rattle.std.specs.Prelude.{if◌then◌else◌}
 use Rattle.packing.specs.Bins.{Packing, opened}
 use Rattle.packing.proofs.Tests.{each_cons}
+use Rattle.ledger.specs.declared.Row.{Row as LedgerRow}
 use Rattle.ledger.specs.Rows.{places}
 use Rattle.pages.specs.Pages.{Row, Line, page, bin, rows, lines, characters, line_text, lines_text}
 use Rattle.pages.specs.Claims.{with_page}
@@ -45,7 +46,7 @@ module _ (pages : ℕ) (few : pages ≤ places) where
   abbrev Lines40 : Row → Type 0
   Lines40 r = (l : Line) → Memᴰ l (with_page pages r) → length (characters l) ≡ 40
 
-  row_40 : {capacity number : ℕ} {row : List ℕ} → Legible capacity number row → Lines40 (told capacity number row)
+  row_40 : {capacity number : ℕ} {row : LedgerRow} → Legible capacity number row → Lines40 (told capacity number row)
   row_40 {capacity = capacity} {number = number} {row = row} h = go (eqb (number % 50) 1)
     where
       alone : (l : Line) → Memᴰ l (bin (told capacity number row) ∷ []) → length (characters l) ≡ 40

@@ -1,13 +1,13 @@
 -- What is printed of a stream, by what `shelve` of the crate stream returns of it.
-use mathlib.Core.Path.{◌≡◌, refl, sym, ap, ◌∙◌}
+use mathlib.Core.Path.{◌≡◌, refl, ap, ◌∙◌}
 use mathlib.Core.List.{List, [], ◌∷◌, ◌++◌}
 use Prim.Native.Nat.{ℕ, ◌+◌, ◌≤◌, ◌<◌}
 use Prim.Native.Char.{code}
 use native.Mathlib.Omega.{arith}
-use lib.ListN.{length, take, drop, length-append}
-use lib.Seq.{length-take-le}
+use lib.ListN.{length}
 use borrow.Author.Tests.{lt-ltb, le-ltb}
-use Rattle.packing.specs.declared.{Opening.Opening, Command.Command, StreamReason.StreamReason, StreamResult.StreamResult}
+use Rattle.packing.specs.declared.{Opening.Opening, Command.Command, StreamReason.StreamReason, StreamTotals.StreamTotals, Refusal.Refusal}
+use Rattle.packing.specs.Prelude.{Ok, Err}
 use Rattle.packing.specs.declared.Production.TheVariants.{First, Second}
 use Rattle.packing.specs.Refusals.{stream_number}
 use Rattle.packing.specs.Bins.{opened}
@@ -22,7 +22,6 @@ use Rattle.packing.proofs.Looks.{height_least, most_few}
 use Rattle.packing.proofs.Given.{stream_number_few}
 use Rattle.packing.proofs.Accepted.{accepted_whole}
 use Rattle.text.specs.Lines.{digits, decimal, line}
-use Rattle.text.specs.Writing.{AtFront}
 use Rattle.text.proofs.Lengths.{line_few, long_line_few}
 use Rattle.answer_lines.specs.Lines.{lines, most_of_a_line}
 use Rattle.report.specs.Lines.{answers_text, refusal, most_bytes, overlong, text, printing, printed, most_of_a_refusal}
@@ -46,12 +45,11 @@ module _ (made : Opening → List Command → List ℕ) (stream : List ℕ) wher
     unfolding printing
     printing_text = rw (le-ltb most_bytes (length stream) short)
 
-    pub printing_refused : (reason : StreamReason) (offset : ℕ) → StreamResult.Refused reason offset ≡ result (verdict stream most_commands)
-        → printing made stream ≡ refusal reason offset
+    pub printing_refused : (r : Refusal StreamReason) → Err r ≡ result (verdict stream most_commands) → printing made stream ≡ refusal r.reason r.place
     unfolding text
-    printing_refused reason offset e = printing_text ∙ go (verdict stream most_commands) e
+    printing_refused r e = printing_text ∙ go (verdict stream most_commands) e
       where
-        go : (r : Read) → StreamResult.Refused reason offset ≡ result r → text made r ≡ refusal reason offset
+        go : (v : Read) → Err r ≡ result v → text made v ≡ refusal r.reason r.place
         go (accepted o cs) q = clash (cc)
         go (refused reason' offset') q = cc
 
@@ -60,39 +58,39 @@ module _ (made : Opening → List Command → List ℕ) (stream : List ℕ) wher
     printing_accepted o cs accepts = printing_text ∙ ap (text made) accepts
 
 -- What is returned of an accepted stream tells that it is one, its items, its bins and its looks.
-module _ (stream : List ℕ) (items bins looks : ℕ) (e : StreamResult.Accepted items bins looks ≡ result (verdict stream most_commands)) where
+module _ (stream : List ℕ) (totals : StreamTotals) (e : Ok totals ≡ result (verdict stream most_commands)) where
   module _ (o : Opening) (cs : List Command) (accepts : verdict stream most_commands ≡ accepted o cs) where
-    returned : StreamResult.Accepted items bins looks ≡ result (accepted o cs)
+    returned : Ok totals ≡ result (accepted o cs)
     returned = e ∙ ap result accepts
 
-    items_are : items ≡ length (still_shelved o First cs) + length (still_shelved o Second cs)
+    items_are : totals.items ≡ length (still_shelved o First cs) + length (still_shelved o Second cs)
     items_are = let r = returned in cc
 
-    bins_are : bins ≡ opened (packing o First cs) + opened (packing o Second cs)
+    bins_are : totals.opened ≡ opened (packing o First cs) + opened (packing o Second cs)
     bins_are = let r = returned in cc
 
-    looks_are : looks ≡ most_looks o cs
+    looks_are : totals.looks ≡ most_looks o cs
     looks_are = let r = returned in cc
 
     -- "T 4096 512 10" and the newline.
-    pub totals_few : length (line (code "T") (items ∷ bins ∷ looks ∷ [])) ≤ most_of_a_line
+    pub totals_few : length (line (code "T") (totals.items ∷ totals.opened ∷ totals.looks ∷ [])) ≤ most_of_a_line
     totals_few =
         let ok = accepted_whole most_commands o cs stream accepts in
         let stock = (in_limits o ok.opening_is_good).stock.1 in
         omega (
           arith,
-          long_line_few (code "T") 3 2 1 items bins looks (omega (arith, items_are, shelved_few o cs, ok.commands_few)) (omega (arith, bins_are, both_in_stock o cs, stock))
+          long_line_few (code "T") 3 2 1 totals.items totals.opened totals.looks (omega (arith, items_are, shelved_few o cs, ok.commands_few)) (omega (arith, bins_are, both_in_stock o cs, stock))
               (omega (arith, looks_are, most_few o cs, (height_least o.stock).least 9 stock)),
         )
 
-    pub printed_accepted : length stream ≤ most_bytes → printed stream ≡ lines (answers o cs) ++ line (code "T") (items ∷ bins ∷ looks ∷ [])
+    pub printed_accepted : length stream ≤ most_bytes → printed stream ≡ lines (answers o cs) ++ line (code "T") (totals.items ∷ totals.opened ∷ totals.looks ∷ [])
     unfolding printed
     printed_accepted short = printing_accepted answers_text stream short o cs accepts ∙ rw (items_are, bins_are, looks_are)
 
--- What the contract of `print` says, for a caller that hands the text on: it stands inside the row.
-module _ (made row : List ℕ) (end : ℕ) (row' : List ℕ) where
-  pub print_inside : AtFront row made end row' → end ≤ length row'
-  print_inside h = omega (arith, h.0, ap length h.1, length-append made (drop (length made) row))
-
-  pub print_length : AtFront row made end row' → end ≡ length (take end row')
-  print_length h = sym (length-take-le end row' (print_inside h))
+  -- Whichever stream it is.
+  pub totals_short : length (line (code "T") (totals.items ∷ totals.opened ∷ totals.looks ∷ [])) ≤ most_of_a_line
+  totals_short = go (verdict stream most_commands) refl
+    where
+      go : (r : Read) → verdict stream most_commands ≡ r → length (line (code "T") (totals.items ∷ totals.opened ∷ totals.looks ∷ [])) ≤ most_of_a_line
+      go (accepted o cs) v = totals_few o cs v
+      go (refused reason offset) v = clash (cc (e, ap result v))

@@ -10,7 +10,7 @@ use Rattle.packing.specs.Bins.{opened}
 use Rattle.packing.specs.Streams.{Read, accepted, refused, verdict}
 use Rattle.packing.specs.Run.{answers, packing, still_shelved, most_looks}
 use Rattle.text.specs.Lines.{line}
-use Rattle.answer_lines.specs.Lines.{lines}
+use Rattle.answer_lines.specs.Lines.{lines, most_of_a_line, most_of_answers}
 
 -- "At the end `T` masters-accepted cartridges-opened": the masters "are of masters still shelved", and both figures "total both" productions; "`T` gains at
 -- its end the largest" looks.
@@ -46,3 +46,7 @@ printed stream = printing answers_text stream
 -- Neither the line of a refusal ("X 18 18446744073709551615" and its newline) nor that of an overlong stream is longer than this.
 abbrev pub most_of_a_refusal : ℕ
 most_of_a_refusal = 26
+
+-- No text is longer: the lines of all answers, and the totals.
+abbrev pub most_of_a_text : ℕ
+most_of_a_text = most_of_answers + most_of_a_line

@@ -1,28 +1,26 @@
-// What is printed of a stream that is refused, or too long to be read: the same by every program. The line stands at the front of the row.
-ghost use Rattle.std.specs.Prelude.{◌≤◌, length};
-ghost use Rattle.text.specs.Writing.{AtFront};
+// What is printed of a stream that is refused, or too long to be read: the same by every program.
+ghost use Rattle.text.specs.Writing.{Room, Appended};
 ghost use Rattle.report.specs.Lines.{refusal, overlong, most_of_a_refusal};
 
-use packing::StreamReason;
+use packing::{Refusal, StreamReason};
+use text::Text;
 
 // A stream may have so many bytes. (4,096 items of 02 have fewer, as many of 06 more: the limit is the program's, and not the stream's.)
 pub const MOST_BYTES: usize = 32768;
 
 // The line of a refusal.
-pub fn put_refusal(out: &mut [u8], reason: StreamReason, offset: usize) -> usize
-    requires { most_of_a_refusal ≤ length out.old }
-    ensures { AtFront out.old (refusal reason offset) result out.new }
+pub fn put_refusal(text: &mut Text<'_>, refused: Refusal<StreamReason>)
+    requires { Room text.old most_of_a_refusal }
+    ensures { Appended text.old (refusal refused.reason refused.place) text.new }
 {
-    let number = refusals::stream_number(reason) as usize;
-    let figures = [number, offset];
-    text::put_line(out, 0, b'X', &figures)
+    let number = u16::from(refused.reason) as usize;
+    text.put_line(b'X', &[number, refused.place]);
 }
 
 // The line of a stream with more bytes.
-pub fn put_overlong(out: &mut [u8]) -> usize
-    requires { most_of_a_refusal ≤ length out.old }
-    ensures { AtFront out.old overlong result out.new }
+pub fn put_overlong(text: &mut Text<'_>)
+    requires { Room text.old most_of_a_refusal }
+    ensures { Appended text.old overlong text.new }
 {
-    let figures = [MOST_BYTES];
-    text::put_line(out, 0, b'L', &figures)
+    text.put_line(b'L', &[MOST_BYTES]);
 }

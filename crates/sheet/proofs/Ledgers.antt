@@ -1,4 +1,4 @@
--- The ledgers of the two productions tell the sheet: production 0's lines stand at the front of the row, and behind them production 1's.
+-- The ledgers of the two productions tell the sheet: production 0's lines, and behind them production 1's.
 use mathlib.Core.Path.{◌≡◌, sym, ap, ◌∙◌}
 use mathlib.Core.Bool.{true}
 use mathlib.Core.List.{List, ◌++◌}
@@ -12,11 +12,13 @@ use Rattle.packing.specs.Limits.{opening_good, most_commands}
 use Rattle.packing.specs.Run.{packing}
 use Rattle.packing.proofs.Limits.{in_limits}
 use Rattle.packing.proofs.Reached.{reached, both_in_stock}
+use Rattle.ledger.specs.declared.Row.{Row}
 use Rattle.ledger.specs.Rows.{places}
 use Rattle.ledger.specs.Records.{Records}
 use Rattle.ledger.specs.Counting.{Tallied}
-use Rattle.text.specs.Writing.{Wrote, AtFront}
-use Rattle.text.proofs.Rows.{wrote_same, wrote_both, at_front}
+use Rattle.text.specs.declared.Text.{Text}
+use Rattle.text.specs.Writing.{Room, Appended}
+use Rattle.text.proofs.Texts.{appended_both}
 use Rattle.pages.specs.Pages.{lines, lines_text}
 use Rattle.pages.specs.Claims.{pages_of}
 use Rattle.pages.specs.Writing.{lines_length, ledger_text, Legibles}
@@ -29,7 +31,7 @@ use Rattle.sheet.proofs.Both.{text_both}
 use Rattle.sheet.proofs.Theorems.{before_is, printable}
 
 -- A ledger counts the bins of the production whose packing it records.
-module _ {o : Opening} (good : opening_good o ≡ true) {ledger : List (List ℕ)} (q : Production) (cs : List Command) (k : Records o ledger (packing o q cs)) where
+module _ {o : Opening} (good : opening_good o ≡ true) {ledger : List Row} (q : Production) (cs : List Command) (k : Records o ledger (packing o q cs)) where
   pub counted : (t : Tally) → Tallied ledger o.stock t → t.figure ≡ opened (packing o q cs)
   counted t h = ap (λ (t : Tally). t.figure) (h.model o (packing o q cs) k (reached o q cs).stock_lasts)
 
@@ -38,25 +40,25 @@ fits : (o : Opening) → opening_good o ≡ true → (cs : List Command) → lin
 fits o good cs = omega (arith, both_in_stock o cs, (in_limits o good).stock.1)
 
 -- What is written of production 0, by so many bins; of production 1, by so many and behind so many pages.
-module _ {o : Opening} (good : opening_good o ≡ true) (cs : List Command) (few : length cs ≤ most_commands) {first second : List (List ℕ)} (k : BothRecorded o cs first second)
-    (bins0 : ℕ) (e0 : bins0 ≡ opened (packing o First cs)) (out : List ℕ) (room : most_of_a_sheet ≤ length out) where
-  pub first_legible : Legibles first o.capacity bins0 0 out 0
-  first_legible = rw e0 (ledger_legible (printable o cs good few First) k.first_is 0 (omega arith) out 0 (omega (arith, fits o good cs)))
+module _ {o : Opening} (good : opening_good o ≡ true) (cs : List Command) (few : length cs ≤ most_commands) {first second : List Row} (k : BothRecorded o cs first second)
+    (bins0 : ℕ) (e0 : bins0 ≡ opened (packing o First cs)) (text : Text) (room : Room text most_of_a_sheet) where
+  pub first_legible : Legibles first o.capacity bins0 0 text
+  first_legible = rw e0 (ledger_legible (printable o cs good few First) k.first_is 0 (omega arith) text (omega (arith, fits o good cs)))
 
   first_text : ledger_text first o.capacity bins0 0 ≡ lines_text (lines 0 (rows_of o First cs))
   first_text = rw e0 (ledger_text_lem (printable o cs good few First) k.first_is 0)
 
-  module _ {end : ℕ} {out' : List ℕ} (w : Wrote out 0 (ledger_text first o.capacity bins0 0) end out')
+  module _ {text' : Text} (w : Appended text (ledger_text first o.capacity bins0 0) text')
       (bins1 : ℕ) (e1 : bins1 ≡ opened (packing o Second cs)) (before : ℕ) (pages : before ≡ pages_of bins0) where
-    first_end : end ≡ lines_length (opened (packing o First cs))
-    first_end = omega (arith, w.place, ap length first_text, lines_length_lem 0 (omega arith) (printable o cs good few First))
+    first_length : length (ledger_text first o.capacity bins0 0) ≡ lines_length (opened (packing o First cs))
+    first_length = omega (arith, ap length first_text, lines_length_lem 0 (omega arith) (printable o cs good few First))
 
     before_few : before ≤ places
     before_few = omega (arith, pages, e0, (printable o cs good few First).bins_few)
 
-    pub second_legible : Legibles second o.capacity bins1 before out' end
+    pub second_legible : Legibles second o.capacity bins1 before text'
     second_legible =
-        rw e1 (ledger_legible (printable o cs good few Second) k.second_is before before_few out' end (omega (arith, fits o good cs, first_end, wrote_same w)))
+        rw e1 (ledger_legible (printable o cs good few Second) k.second_is before before_few text' (omega (arith, fits o good cs, first_length, w)))
 
     second_text : ledger_text second o.capacity bins1 before ≡ lines_text (lines before (rows_of o Second cs))
     second_text = rw e1 (ledger_text_lem (printable o cs good few Second) k.second_is before)
@@ -69,10 +71,5 @@ module _ {o : Opening} (good : opening_good o ≡ true) (cs : List Command) (few
         ∙ ap (λ (t : List ℕ). lines_text (lines 0 (rows_of o First cs)) ++ t) (second_text ∙ ap (λ (n : ℕ). lines_text (lines n (rows_of o Second cs))) same)
         ∙ sym (text_both (lines 0 (rows_of o First cs)) (lines _ (rows_of o Second cs)))
 
-    pub sheet_stands : (end' : ℕ) (out'' : List ℕ) → Wrote out' end (ledger_text second o.capacity bins1 before) end' out'' → AtFront out (sheet_text o cs) end' out''
-    sheet_stands end' out'' v =
-        let whole = wrote_both out 0 (ledger_text first o.capacity bins0 0) (ledger_text second o.capacity bins1 before) end out' w end' out'' v in
-        let long = lines_length_lem before before_few (printable o cs good few Second) in
-        rw (← sheet_is)
-        (at_front out (ledger_text first o.capacity bins0 0 ++ ledger_text second o.capacity bins1 before) end' out''
-        (omega (arith, whole.place, v.place, ap length second_text, long, fits o good cs, first_end)) whole)
+    pub sheet_stands : {text'' : Text} → Appended text' (ledger_text second o.capacity bins1 before) text'' → Appended text (sheet_text o cs) text''
+    sheet_stands v = rw (← sheet_is) (appended_both w v)

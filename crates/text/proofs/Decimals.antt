@@ -2,7 +2,7 @@
 use mathlib.Core.Path.{◌≡◌, sym, ap, ◌∙◌}
 use mathlib.Core.List.{List, [], ◌∷◌, ◌++◌, foldl, foldl-append}
 use Prim.Native.Nat.{ℕ, zero, suc, ◌+◌, ◌*◌, ◌-◌, ◌/◌, ◌%◌, ◌^◌, ◌≤◌, ◌<◌}
-use native.Mathlib.Nat.{pow-succ'}
+use native.Mathlib.Nat.{pow-succ', one-le-pow}
 use native.Mathlib.Omega.{arith}
 use native.Mathlib.Decide.{dec_le}
 use borrow.Author.Tests.{lt-ltb, le-ltb}
@@ -37,21 +37,40 @@ unfolding decimal
 decimal_large n h =
     digits_more n n h ∙ ap (λ (l : List ℕ). l ++ digit (n % 10) ∷ []) (digits_enough n (suc (n / 10)) (n / 10) (omega arith) (omega arith))
 
+pub decimal_longer : (n : ℕ) → 10 ≤ n → length (decimal n) ≡ length (decimal (n / 10)) + 1
+decimal_longer n h = ap length (decimal_large n h) ∙ length-append (decimal (n / 10)) (digit (n % 10) ∷ [])
+
+-- A number by its tens, if it has any, and its last digit.
+pub ruleset by_tens = (decimal_small, decimal_large, decimal_longer)
+
 -- A number below 10 ^ k, for a k from 1 on, has at most k digits.
 pub decimal_few : (k n : ℕ) → n < 10 ^ suc k → length (decimal n) ≤ suc k
 decimal_few zero n h = omega (arith, ap length (decimal_small n (omega arith)))
 decimal_few (suc k) n h = elim (dec_le 10 n) [
   | yes large ↦
       let tens = decimal_few k (n / 10) (omega (arith, pow-succ' 10 (suc k))) in
-      omega (arith, ap length (decimal_large n large), length-append (decimal (n / 10)) (digit (n % 10) ∷ []))
+      omega (arith, decimal_longer n large)
   | no small ↦ omega (arith, ap length (decimal_small n (omega arith)))
 ]
 
 pub decimal_some : (n : ℕ) → 1 ≤ length (decimal n)
 decimal_some n = elim (dec_le 10 n) [
-  | yes large ↦ omega (arith, ap length (decimal_large n large), length-append (decimal (n / 10)) (digit (n % 10) ∷ []))
+  | yes large ↦ omega (arith, decimal_longer n large)
   | no small ↦ omega (arith, ap length (decimal_small n (omega arith)))
 ]
+
+-- One from 10 ^ k on has more than k.
+pub decimal_many : (k n : ℕ) → 10 ^ k ≤ n → suc k ≤ length (decimal n)
+decimal_many zero n h = decimal_some n
+decimal_many (suc k) n h =
+    let more : 10 * 10 ^ k ≤ n = rw (pow-succ' 10 k) at h in
+    let large : 10 ≤ n = omega (arith, one-le-pow k 10 (omega arith)) in
+    let tens = decimal_many k (n / 10) (omega arith) in
+    omega (arith, decimal_longer n large)
+
+-- One between two powers has so many.
+pub decimal_length : (k n : ℕ) → 10 ^ k ≤ n → n < 10 * 10 ^ k → length (decimal n) ≡ k + 1
+decimal_length k n least most = omega (arith, decimal_few k n (omega (arith, pow-succ' 10 k)), decimal_many k n least)
 
 -- What digits are read as.
 abbrev pub read_as : List ℕ → ℕ

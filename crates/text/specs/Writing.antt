@@ -1,16 +1,29 @@
--- What the functions that write promise to each other: a text stands in a row of bytes, from a place on.
-use Rattle.std.specs.Prelude.{◌≡◌, List, ◌++◌, ℕ, ◌+◌, ◌≤◌, length, drop}
-use Rattle.std.proofs.lemmas.List.Edits.{sets}
+-- What the methods of a text promise: what is written stands behind what stood there, and the bytes behind it are as they were.
+use Rattle.std.specs.Prelude.{◌≡◌, List, ◌++◌, ℕ, ◌+◌, ◌≤◌, length, take, drop}
+use Rattle.std.specs.Borrow.{MutBor}
+use Rattle.text.specs.declared.Text.{Text}
 
--- There is room for the text in the row, from this place on.
-abbrev pub Room : (row : List ℕ) (at : ℕ) (text : List ℕ) → Type 0
-Room row at text = at + length text ≤ length row
+-- The text so far, and the bytes behind it in its row.
+abbrev pub written : Text → List ℕ
+written t = take t.end t.row.now
 
--- The text stands there and ends before the place `end`; every other byte is as it was.
-pub record Wrote (row : List ℕ) (at : ℕ) (text : List ℕ) (end : ℕ) (row' : List ℕ) : Type 0 where
-  pub place : end ≡ at + length text
-  pub bytes : row' ≡ sets row at text
+abbrev pub behind : Text → List ℕ
+behind t = drop t.end t.row.now
 
--- The text stands at the front of the row and ends before the place `end`; the bytes behind it are as they were.
-abbrev pub AtFront : (row text : List ℕ) (end : ℕ) (row' : List ℕ) → Type 0
-AtFront row text end row' = (end ≡ length text) × (row' ≡ text ++ drop (length text) row)
+-- There is room for so many bytes more.
+abbrev pub Room : Text → ℕ → Type 0
+Room t n = t.end + n ≤ length t.row.now
+
+-- Nothing is written yet, and the whole row is as it was.
+pub record Begun (row : MutBor (List ℕ)) (t : Text) : Type 0 where
+  pub same_row : t.row.ghost_name ≡ row.ghost_name
+  pub nothing : t.end ≡ 0
+  pub untouched : t.row.now ≡ row.now
+
+-- The bytes stand behind the text, and are part of it; those behind them are as they were.
+pub record Appended (t : Text) (bytes : List ℕ) (t' : Text) : Type 0 where
+  pub same_row : t'.row.ghost_name ≡ t.row.ghost_name
+  pub same_length : length t'.row.now ≡ length t.row.now
+  pub longer : t'.end ≡ t.end + length bytes
+  pub text : written t' ≡ written t ++ bytes
+  pub untouched : behind t' ≡ drop (length bytes) (behind t)

@@ -1,10 +1,6 @@
 -- `put_end` meets its contract: spaces, and behind them the newline.
-use Rattle.std.proofs.Common.{◌∷◌, []}
-use Prim.Native.Char.{code}
-use Rattle.text.proofs.Rows.{wrote_both}
-use Rattle.fields.specs.Fields.{spaces}
+use Rattle.text.proofs.Texts.{appended_both}
 use Rattle.fields.proofs.put_end.Goals as goal
 
 pub returns : goal.returns
-returns c =
-    wrote_both c.args.out.now c.args.at (spaces c.args.n) (code "\n" ∷ []) _ _ c.put_spaces-end.ensures _ _ c.put_byte.ensures
+returns c = appended_both c.put_spaces.ensures c.put_byte.ensures

@@ -1,11 +1,14 @@
 -- `put_spaces` meets its contract: each turn writes one space more.
 use Rattle.std.proofs.Common.{arith}
-use Rattle.text.proofs.Rows.{wrote_both}
-use Rattle.fields.specs.Fields.{spaces}
-use Rattle.fields.proofs.Widths.{spaces_more}
+use Rattle.text.proofs.Texts.{appended_none, appended_both}
+use Rattle.fields.proofs.Widths.{spaces_length, spaces_more}
 use Rattle.fields.proofs.put_spaces.Goals as goal
 
-pub loop-done-preserved : goal.loop-done-preserved
-loop-done-preserved c =
-    let l = c.loop-done in
-    (omega arith, rw (← spaces_more l.done) (wrote_both _ _ (spaces l.done) _ _ _ l.invariant.1 _ _ c.put_byte-end.ensures))
+pub loop-init : goal.loop-init
+loop-init c = appended_none c.args.text.now
+
+pub put_byte-requires : goal.put_byte-requires
+put_byte-requires c = omega (arith, spaces_length c.loop.counter)
+
+pub loop-preserved : goal.loop-preserved
+loop-preserved c = rw (← spaces_more c.loop.counter) (appended_both c.loop.invariant c.put_byte.ensures)

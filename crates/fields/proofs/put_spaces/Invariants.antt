@@ -1,11 +1,7 @@
--- So many spaces are written. The measure is how many are left.
-use Rattle.std.proofs.Common.{◌-◌, ◌≤◌}
-use Rattle.text.specs.Writing.{Wrote}
+-- So many spaces are written.
+use Rattle.text.specs.Writing.{Appended}
 use Rattle.fields.specs.Fields.{spaces}
 use Rattle.fields.proofs.put_spaces.Given as goal
 
-abbrev pub invariant-loop-done : goal.invariant-loop-done
-invariant-loop-done l = (l.done ≤ l.n) × Wrote l.fn.out l.at (spaces l.done) l.end l.out
-
-abbrev pub decreases-loop-done : goal.decreases-loop-done
-decreases-loop-done l = l.n - l.done
+abbrev pub invariant-loop : goal.invariant-loop
+invariant-loop l = Appended l.fn.text (spaces l.counter) l.text

@@ -1,5 +1,5 @@
 -- The measure of the recursion is the number.
-use Rattle.text.proofs.+put_decimal.Given as goal
+use Rattle.text.proofs.Text.+put_decimal.Given as goal
 
 abbrev pub decreases-put_decimal : goal.decreases-put_decimal
 decreases-put_decimal l = l.n

@@ -1,5 +1,0 @@
--- The measure of the recursion is the number.
-use Rattle.fields.proofs.+put_right.Given as goal
-
-abbrev pub decreases-put_right : goal.decreases-put_right
-decreases-put_right l = l.n
