@@ -5,7 +5,7 @@ ghost use Rattle.std.specs.Prelude.{◌≡◌, ◌↔◌, ◌++◌, length, drop
 ghost use Rattle.packing.specs.Refusals.{word, free_units, stream_gives, plan_gives, repack_gives, pair_gives};
 ghost use Rattle.packing.specs.Streams.{words_lent, verdict};
 ghost use Rattle.packing.specs.Run.{result as run_result, row_at_exit};
-ghost use Rattle.packing.specs.declared.RowResult.{RowResult};
+ghost use Rattle.packing.specs.Refusing.{pass};
 ghost use Rattle.packing.specs.Plans.{plan_of, check};
 ghost use Rattle.packing.specs.Rows.{check_row, SoundRow, check_pair, SoundPair};
 ghost use Rattle.worst_case.specs.PlanFits.{Exact};
@@ -22,7 +22,7 @@ pub use plan::check_plan;
 
 // Shelves the items of a command stream, and answers each command by a word of each of the two rows that the caller lends. `promises` is all that holds of
 // a stream that no refusal stops, and of the two packings so made, field by field (promises/specs/Promises.antt): among them that no bin is overfull, that
-// each item goes to the lowest permitted bin with space, and the figures of demand 3.
+// each item goes to the lowest permitted bin with space, and the figures of demand 3. (Two rows of words, as the interface for C lends them.)
 pub fn shelve(stream: &[u8], answers: &mut [u16], free: &mut [u32]) -> StreamResult
     ensures result { stream_gives result ≡ stream_gives (run_result (verdict stream.now (words_lent answers.old free.old))) }
     ensures answers { answers.new ≡ row_at_exit word (verdict stream.now (words_lent answers.old free.old)) answers.old }
@@ -56,8 +56,8 @@ pub fn check_rows(sizes: &[u32], bins: &[u32], items: &[u32], capacity: u32, k: 
 pub fn repack(sizes: &[u32], answers: &mut [u16], capacity: u32, old: u32) -> RepackResult
     ensures result { repack_gives result ≡ repack_gives (repack_result capacity sizes.now old (check_row capacity (length answers.old) sizes.now)) }
     ensures answers { answers.new ≡ answers_at_exit capacity sizes.now (check_row capacity (length answers.old) sizes.now) answers.old }
-    ensures exact { (check_row capacity (length answers.old) sizes.now ≡ RowResult.Sound) ↔ SoundRow capacity (length answers.old) sizes.now }
-    ensures promises { check_row capacity (length answers.old) sizes.now ≡ RowResult.Sound → RepackPromises capacity sizes.now }
+    ensures exact { (check_row capacity (length answers.old) sizes.now ≡ pass) ↔ SoundRow capacity (length answers.old) sizes.now }
+    ensures promises { check_row capacity (length answers.old) sizes.now ≡ pass → RepackPromises capacity sizes.now }
 {
     repack::repack(sizes, answers, capacity, old)
 }
@@ -68,7 +68,7 @@ pub fn repack(sizes: &[u32], answers: &mut [u16], capacity: u32, old: u32) -> Re
 pub fn pair(pictures: &[u32], sounds: &[u32], answers: &mut [u16], capacity: u32) -> PairResult
     ensures result { pair_gives result ≡ pair_gives (pair_result capacity pictures.now sounds.now (check_pair capacity (length answers.old) pictures.now sounds.now)) }
     ensures answers { answers.new ≡ places_at_exit capacity pictures.now sounds.now (check_pair capacity (length answers.old) pictures.now sounds.now) answers.old }
-    ensures exact { (check_pair capacity (length answers.old) pictures.now sounds.now ≡ RowResult.Sound) ↔ SoundPair capacity (length answers.old) pictures.now sounds.now }
+    ensures exact { (check_pair capacity (length answers.old) pictures.now sounds.now ≡ pass) ↔ SoundPair capacity (length answers.old) pictures.now sounds.now }
     ensures promises { PairPromises capacity pictures.now sounds.now }
 {
     pairs::pair(pictures, sounds, answers, capacity)

@@ -5,7 +5,7 @@ ghost use Rattle.std.specs.Prelude.{◌≡◌, ◌++◌, length, drop};
 ghost use Rattle.packing.specs.Refusals.{word, free_units};
 ghost use Rattle.packing.specs.Streams.{words_lent, verdict};
 ghost use Rattle.packing.specs.Run.{result as run_result, row_at_exit};
-ghost use Rattle.packing.specs.declared.RowResult.{RowResult};
+ghost use Rattle.packing.specs.Refusing.{pass};
 ghost use Rattle.packing.specs.Plans.{plan_of, check};
 ghost use Rattle.packing.specs.Rows.{check_row, check_pair};
 ghost use Rattle.decreasing.specs.Repack.{repack_result, answers_at_exit};
@@ -63,7 +63,7 @@ pub extern "C" fn shelf_repack(sizes: &[u32], answers: &mut [u16], capacity: u32
     ensures code { result ≡ repack_code (repack_result capacity sizes.now old (check_row capacity (length answers.old) sizes.now)) }
     ensures fits { RepackFits (repack_result capacity sizes.now old (check_row capacity (length answers.old) sizes.now)) }
     ensures answers { answers.new ≡ answers_at_exit capacity sizes.now (check_row capacity (length answers.old) sizes.now) answers.old }
-    ensures promises { check_row capacity (length answers.old) sizes.now ≡ RowResult.Sound → RepackPromises capacity sizes.now }
+    ensures promises { check_row capacity (length answers.old) sizes.now ≡ pass → RepackPromises capacity sizes.now }
 {
     let r = shelf::repack(sizes, answers, capacity, old);
     codes::repack_code(r)
