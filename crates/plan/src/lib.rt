@@ -6,7 +6,7 @@ ghost use Rattle.packing.specs.Refusals.{plan_gives};
 ghost use Rattle.packing.specs.Plans.{check};
 ghost use Rattle.worst_case.specs.PlanFits.{Exact};
 
-use packing::{Entry, PlanResult, Refusal};
+use packing::{Entry, PlanResult};
 use plan_rows::LOADS;
 
 // "A plan is a row of entries, each a size and a cartridge number": the plan checker of document 01, which names the form: a lent slice of entries with a thin
@@ -18,10 +18,7 @@ pub fn check_plan(plan: &[Entry], items: &[u32], capacity: u32, k: u32) -> PlanR
     plan_limits::check_limits(capacity, k, plan.len(), items.len())?;
     let mut loads = [0u32; LOADS];
     for (i, (entry, item)) in plan.iter().zip(items).enumerate() {
-        plan_rows::check_entry(&mut loads, *entry, *item, capacity, k).map_err(|reason| Refusal {
-            reason,
-            place: i + 1,
-        })?;
+        plan_rows::check_entry(&mut loads, *entry, *item, i, capacity, k)?;
     }
     Ok(())
 }

@@ -1,6 +1,6 @@
 -- The walk over the entries: what is still to come of them, with those that the loads stand for before it, is what the whole check comes to. Of any plan:
 -- the core walks two rows, and the checker over entries the entries.
-use mathlib.Core.Path.{◌≡◌, refl, sym, ap, ◌∙◌}
+use mathlib.Core.Path.{◌≡◌, refl, ap, ◌∙◌}
 use Rattle.std.specs.Prelude.{Option, Some, None}
 use mathlib.Core.List.{List, [], ◌∷◌, zip_with}
 use Prim.Native.Nat.{ℕ, zero, suc, min, ◌+◌, ◌≤◌, ◌<◌}
@@ -9,7 +9,7 @@ use native.Mathlib.Omega.{arith}
 use lib.ListN.{length, get_or, drop, drop_of_length-le, replicate, length-replicate}
 use lib.Seq.{drop-cons}
 use Rattle.packing.specs.declared.{Entry.Entry, PlanReason.PlanReason, Refusal.Refusal}
-use Rattle.packing.specs.Prelude.{total, Result, Ok, Err}
+use Rattle.packing.specs.Prelude.{total, Err}
 use Rattle.packing.specs.Refusing.{pass}
 use Rattle.packing.specs.Limits.{most_capacity, most_rows}
 use Rattle.packing.specs.Plans.{plan_of, limits, fault, entries, check}
@@ -63,8 +63,7 @@ module _ (capacity k : ℕ) (plan : List Entry) (items : List ℕ) where
     pub one_length : length plan ≡ length items
     one_length = (passed_within capacity k (length plan) (length items) g.limited).one_length
 
-    module _ (h : i < length items) (e : Entry) (here : get_or plan i blank ≡ e) (answer : Result (Unit {0}) PlanReason) (exit : List ℕ)
-        (d : Checked capacity k loads e (get_or items i 0) answer exit) where
+    module _ (h : i < length items) (e : Entry) (here : get_or plan i blank ≡ e) where
       -- the first of the entries to come
       now_here : entries capacity k g.before (e ∷ drop (suc i) plan) (get_or items i 0 ∷ drop (suc i) items) ≡ check capacity k plan items
       now_here = rw (drop-cons plan i blank (omega (arith, one_length)), here, drop-cons items i 0 h) at g.to_come
@@ -72,31 +71,29 @@ module _ (capacity k : ℕ) (plan : List Entry) (items : List ℕ) where
       abbrev fault_here : Option PlanReason
       fault_here = fault capacity k g.before e (get_or items i 0)
 
-      pub checking_next : answer ≡ Ok tt → Checking capacity k plan items exit (i + 1)
+      pub checking_next : (exit : List ℕ) → Checked capacity k loads e (get_or items i 0) i pass exit → Checking capacity k plan items exit (i + 1)
       unfolding entries
-      checking_next q = go fault_here refl (sym q ∙ d.answered g.before g.stands)
+      checking_next exit d = go fault_here refl (d.answered g.before g.stands)
         where
-          go : (f : Option PlanReason) → fault capacity k g.before e (get_or items i 0) ≡ f → Ok tt ≡ finding f → Checking capacity k plan items exit (i + 1)
-          go None p r = record {
+          go : (f : Option PlanReason) → fault capacity k g.before e (get_or items i 0) ≡ f → pass ≡ finding i f → Checking capacity k plan items exit (i + 1)
+          go None p q = record {
             before = e ∷ g.before;
             limited = g.limited;
             kept = d.kept;
-            stands = d.added q g.before g.stands;
+            stands = d.added refl g.before g.stands;
             places = rw add-one (ap suc g.places);
             to_come = rw add-one (rw (p, entries) at now_here);
           }
-          go (Some reason) p r = clash (cc)
+          go (Some reason) p q = clash (cc)
 
-      pub checking_refused : (r : Refusal PlanReason) → answer ≡ Err r.reason → r.place ≡ i + 1 → Err r ≡ check capacity k plan items
+      pub checking_refused : (r : Refusal PlanReason) (exit : List ℕ) → Checked capacity k loads e (get_or items i 0) i (Err r) exit
+          → Err r ≡ check capacity k plan items
       unfolding entries
-      checking_refused r q at_place = go fault_here refl (sym q ∙ d.answered g.before g.stands)
+      checking_refused r exit d = go fault_here refl (d.answered g.before g.stands)
         where
-          go : (f : Option PlanReason) → fault capacity k g.before e (get_or items i 0) ≡ f → Err r.reason ≡ finding f → Err r ≡ check capacity k plan items
-          go None p s = clash (cc)
-          go (Some other) p s =
-              let same : r.reason ≡ other = cc in
-              let place : r.place ≡ suc (length g.before) = rw (at_place, add-one, g.places) in
-              (λ j. Err (record { reason = same j; place = place j })) ∙ (rw (p, entries) at now_here)
+          go : (f : Option PlanReason) → fault capacity k g.before e (get_or items i 0) ≡ f → Err r ≡ finding i f → Err r ≡ check capacity k plan items
+          go None p q = clash (cc)
+          go (Some reason) p q = q ∙ (rw (p, entries, g.places, ← add-one) at now_here)
 
     pub checking_passed : length items ≤ i → pass ≡ check capacity k plan items
     unfolding entries

@@ -10,7 +10,8 @@ use lib.ListN.{length, get_or, set, length-set}
 use lib.Seq.{get_or-set_same, get_or-set_other}
 use Rattle.packing.proofs.Tests.{clash}
 use Rattle.packing.specs.declared.{Entry.Entry, PlanReason.PlanReason}
-use Rattle.packing.specs.Prelude.{total, Ok, Err}
+use Rattle.packing.specs.Prelude.{total}
+use Rattle.packing.specs.Refusing.{refuse, pass}
 use Rattle.packing.specs.Limits.{most_rows}
 use Rattle.packing.specs.Plans.{on_bin, fault}
 use Rattle.plan_rows.specs.Loads.{LoadsKept, LoadsOf, finding, Checked}
@@ -29,14 +30,14 @@ pub summed : (loads : List ℕ) (e : Entry) → e.bin ≤ most_rows → (before 
     → on_bin e.bin (e ∷ before) ≡ get_or loads e.bin 0 + e.size
 summed loads e low before r = omega (arith, on_own e before, r e.bin low)
 
-module _ (capacity k : ℕ) (loads : List ℕ) (e : Entry) (item : ℕ) (kept : LoadsKept capacity k loads) where
+module _ (capacity k : ℕ) (loads : List ℕ) (e : Entry) (item i : ℕ) (kept : LoadsKept capacity k loads) where
   pub faulty : (reason : PlanReason) → ((before : List Entry) → LoadsOf loads before → fault capacity k before e item ≡ Some reason)
-      → Checked capacity k loads e item (Err reason) loads
+      → Checked capacity k loads e item i (refuse reason (i + 1)) loads
   faulty reason f = record {
     kept = kept;
-    answered = λ before r. sym (ap finding (f before r));
+    answered = λ before r. sym (ap (finding i) (f before r));
     added = λ q. clash (cc);
-    refused = λ other q. refl;
+    refused = λ other place q. refl;
   }
 
   module _ (low : e.bin ≤ most_rows) (fits : get_or loads e.bin 0 + e.size ≤ capacity) where
@@ -62,7 +63,7 @@ module _ (capacity k : ℕ) (loads : List ℕ) (e : Entry) (item : ℕ) (kept : 
     ]
 
     pub sound : ((before : List Entry) → LoadsOf loads before → fault capacity k before e item ≡ None)
-        → Checked capacity k loads e item (Ok tt) exit
+        → Checked capacity k loads e item i pass exit
     sound f = record {
       kept = record {
         capacity_most = kept.capacity_most;
@@ -70,7 +71,7 @@ module _ (capacity k : ℕ) (loads : List ℕ) (e : Entry) (item : ℕ) (kept : 
         places = length-set loads e.bin sum ∙ kept.places;
         not_overfull = none_over;
       };
-      answered = λ before r. sym (ap finding (f before r));
+      answered = λ before r. sym (ap (finding i) (f before r));
       added = λ q. stands;
-      refused = λ reason q. clash (cc);
+      refused = λ reason place q. clash (cc);
     }

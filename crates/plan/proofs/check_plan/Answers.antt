@@ -23,28 +23,27 @@ returns-in_err-check_limits-clause-exact c = exact_as _ _ _ _ _ (limited c)
 pub loop-i-init : goal.loop-i-init
 loop-i-init c = checking_start _ _ _ _ (sym c.in_ok-check_limits.ensures)
 
-pub check_entry-requires : goal.check_entry-requires
-check_entry-requires c = c.loop-i.invariant.kept
+pub check_entry-requires-clause-loads : goal.check_entry-requires-clause-loads
+check_entry-requires-clause-loads c = c.loop-i.invariant.kept
 
 pub loop-i-preserved : goal.loop-i-preserved
 loop-i-preserved c =
     let w = at_pair c.args.plan.now c.args.items.now c.loop-i.yielded _ _ (cc) (cc) (cc) c.loop-i.yielded_by c.next.new.self _ _ c.in-Some.is c.next.ensures.steps in
     rw length-append
-    (checking_next _ _ _ _ _ _ c.loop-i.invariant w.1 _ (sym (w.3 blank)) _ _ (rw (w.4 0) at c.check_entry.ensures) (grind arith))
+    (checking_next _ _ _ _ _ _ c.loop-i.invariant w.1 _ (sym (w.3 blank)) _ (rw (w.2, w.4 0) at c.in_ok-check_entry.ensures))
 
-refused : (c : goal.After-from_residual-in_err-map_err) → c.from_residual-in_err-map_err.result ≡ check c.args.capacity c.args.k c.args.plan.now c.args.items.now
+refused : (c : goal.After-from_residual-in_err-check_entry) → c.from_residual-in_err-check_entry.result ≡ check c.args.capacity c.args.k c.args.plan.now c.args.items.now
 refused c =
     let w = at_pair c.args.plan.now c.args.items.now c.loop-i.yielded _ _ (cc) (cc) (cc) c.loop-i.yielded_by c.next.new.self _ _ c.in-Some.is c.next.ensures.steps in
-    let p = err_from_is_err_and c.from_residual-in_err-map_err.result c.from_residual-in_err-map_err.ensures.1 in
+    let p = err_from_is_err_and c.from_residual-in_err-check_entry.result c.from_residual-in_err-check_entry.ensures.1 in
     rw (p.1, p.2)
-    (checking_refused _ _ _ _ _ _ c.loop-i.invariant w.1 _ (sym (w.3 blank)) _ _ (rw (w.4 0) at c.check_entry.ensures) c.in_err-map_err.field-0.0 (grind arith)
-    (grind (arith, w.2)))
+    (checking_refused _ _ _ _ _ _ c.loop-i.invariant w.1 _ (sym (w.3 blank)) _ _ (rw (w.2, w.4 0) at c.in_err-check_entry.ensures))
 
-pub returns-in_err-map_err-clause-result : goal.returns-in_err-map_err-clause-result
-returns-in_err-map_err-clause-result c = ap plan_gives (refused c)
+pub returns-in_err-check_entry-clause-result : goal.returns-in_err-check_entry-clause-result
+returns-in_err-check_entry-clause-result c = ap plan_gives (refused c)
 
-pub returns-in_err-map_err-clause-exact : goal.returns-in_err-map_err-clause-exact
-returns-in_err-map_err-clause-exact c = exact_as _ _ _ _ _ (refused c)
+pub returns-in_err-check_entry-clause-exact : goal.returns-in_err-check_entry-clause-exact
+returns-in_err-check_entry-clause-exact c = exact_as _ _ _ _ _ (refused c)
 
 passed : (c : goal.In-None) → pass ≡ check c.args.capacity c.args.k c.args.plan.now c.args.items.now
 passed c =

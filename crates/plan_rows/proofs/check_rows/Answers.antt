@@ -1,5 +1,5 @@
 -- `check_rows` meets its contract: the walk ends at the first entry that is refused, or after the last item.
-use Rattle.std.proofs.Common.{sym, arith}
+use Rattle.std.proofs.Common.{sym}
 use Rattle.std.proofs.lemmas.Result.{err_from_is_err_and}
 use Rattle.plan_rows.proofs.Checking.{rows_refused, rows_start, rows_inside, rows_at, checking_next, checking_refused, checking_passed}
 use Rattle.plan_rows.proofs.check_rows.Goals as goal
@@ -18,16 +18,15 @@ bounds-sizes-i c = (rows_inside _ _ _ _ _ _ _ c.loop-i.invariant c.loop-i-test.t
 pub bounds-bins-i : goal.bounds-bins-i
 bounds-bins-i c = (rows_inside _ _ _ _ _ _ _ c.loop-i.invariant c.loop-i-test.true).1
 
-pub returns-in_err-map_err : goal.returns-in_err-map_err
-returns-in_err-map_err c =
-    let p = err_from_is_err_and c.from_residual-in_err-map_err.result c.from_residual-in_err-map_err.ensures.1 in
+pub returns-in_err-check_entry : goal.returns-in_err-check_entry
+returns-in_err-check_entry c =
+    let p = err_from_is_err_and c.from_residual-in_err-check_entry.result c.from_residual-in_err-check_entry.ensures.1 in
     rw (p.1, p.2)
-    (checking_refused _ _ _ _ _ _ c.loop-i.invariant c.loop-i-test.true _ (rows_at _ _ _ _ _ _ _ c.loop-i.invariant c.loop-i-test.true) _ _ c.check_entry.ensures
-    c.in_err-map_err.field-0.0 (grind arith) (grind arith))
+    (checking_refused _ _ _ _ _ _ c.loop-i.invariant c.loop-i-test.true _ (rows_at _ _ _ _ _ _ _ c.loop-i.invariant c.loop-i-test.true) _ _ c.in_err-check_entry.ensures)
 
 pub loop-i-preserved : goal.loop-i-preserved
 loop-i-preserved c =
-    checking_next _ _ _ _ _ _ c.loop-i.invariant c.loop-i-test.true _ (rows_at _ _ _ _ _ _ _ c.loop-i.invariant c.loop-i-test.true) _ _ c.check_entry.ensures (grind arith)
+    checking_next _ _ _ _ _ _ c.loop-i.invariant c.loop-i-test.true _ (rows_at _ _ _ _ _ _ _ c.loop-i.invariant c.loop-i-test.true) _ c.in_ok-check_entry.ensures
 
 pub returns : goal.returns
 returns c = checking_passed _ _ _ _ _ _ c.loop-i.invariant c.loop-i-test.false

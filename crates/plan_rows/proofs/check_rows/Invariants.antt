@@ -4,4 +4,4 @@ use Rattle.plan_rows.proofs.Checking.{Checking}
 use Rattle.plan_rows.proofs.check_rows.Given as goal
 
 abbrev pub invariant-loop-i : goal.invariant-loop-i
-invariant-loop-i l = Checking l.capacity l.k (plan_of l.sizes l.bins) l.items l.loads l.i-counter
+invariant-loop-i l = Checking l.capacity l.k (plan_of l.sizes l.bins) l.items l.loads l.i
