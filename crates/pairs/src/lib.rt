@@ -57,15 +57,16 @@ fn fill(pictures: &[u32], sounds: &[u32], answers: &mut [u16], capacity: u32) ->
     let mut row = [0u64; ROWS];
     let mut rising = [0u64; ROWS];
     let mut falling = [0u64; ROWS];
-    let rising = &mut rising[..pictures.len()];
-    let falling = &mut falling[..sounds.len()];
     let order = Order::SmallestFirst;
-    let part = &mut row[..pictures.len()];
-    sorted_sizes::sort_sizes(pictures, part, rising, capacity, order);
-    let part = &mut row[..sounds.len()];
-    sorted_sizes::sort_sizes(sounds, part, falling, capacity, order);
+    sorted_sizes::sort_sizes(pictures, &mut row, &mut rising, capacity, order);
+    sorted_sizes::sort_sizes(sounds, &mut row, &mut falling, capacity, order);
     answers[..pictures.len()].fill(0);
-    walk(rising, falling, answers, capacity)
+    walk(
+        &rising[..pictures.len()],
+        &falling[..sounds.len()],
+        answers,
+        capacity,
+    )
 }
 
 // "Picture and sound together": each picture's sound, by its place from 1, or 0 goes to the answers, and the number of pairs is returned. Nothing is written

@@ -63,10 +63,8 @@ fn fill(sizes: &[u32], answers: &mut [u16], capacity: u32) -> usize
 {
     let mut row = [0u64; ROWS];
     let mut sorted = [0u64; ROWS];
-    let row = &mut row[..sizes.len()];
-    let sorted = &mut sorted[..sizes.len()];
-    sorted_sizes::sort_sizes(sizes, row, sorted, capacity, Order::LargestFirst);
-    pack(sorted, answers, capacity)
+    sorted_sizes::sort_sizes(sizes, &mut row, &mut sorted, capacity, Order::LargestFirst);
+    pack(&sorted[..sizes.len()], answers, capacity)
 }
 
 // "Repacking a closed shelf": each size's new bin goes to the answers, in the order of the row; the new count is returned, and whether it is not below the

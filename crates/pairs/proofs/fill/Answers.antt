@@ -15,5 +15,5 @@ returns-clause-answers c =
     let cleared = c.fill.ensures.after (λ y e. e) in
     let front : length (take (length c.args.pictures.now) c.args.answers.now) ≡ length c.args.pictures.now =
     length-take-le _ _ c.requires.words_enough in
-    walked_answers _ _ _ _ c.requires _ _ c.sort_sizes.ensures c.sort_sizes-2.ensures _
+    walked_answers _ _ _ _ c.requires _ _ c.sort_sizes.ensures.sorted c.sort_sizes-2.ensures.sorted _
     (ap (λ l. l ++ drop (length c.args.pictures.now) c.args.answers.now) (cleared ∙ ap (λ n. replicate n 0) front)) _ _ c.walk.ensures
